@@ -1,0 +1,4 @@
+pub mod Trials
+pub mod ByteBits
+pub mod Writes
+pub mod Firsts
