@@ -9,7 +9,7 @@ use Prim.Native.Nat.{ℕ, min, _+_, _<_, _≤_}
 use Rattle.bits.specs.Bits.{Told}
 use Rattle.bits.specs.declared.source.Answer.the-variants.{Bit, Ended}
 use Rattle.std.proofs.shelf.Counted.{length-map-counting, getD-map-counting, take-map-counting, map-counting-more}
-use Rattle.std.proofs.shelf.Lists.{ext-getD}
+use Rattle.std.proofs.shelf.Lists.{ext-getD, nil-from-length}
 use Rattle.lent.specs.Layouts.{first, lentBits, Written}
 
 pub length-first : (f : ℕ → Bool) (n : ℕ) → length (first f n) ≡ n
@@ -59,3 +59,11 @@ module _ (space : ℕ → ℕ) (at : List ℕ → ℕ → Bool) (bytes : List �
       let m : min (n + 1) (space (length after)) ≡ n + 1 = rw same (omega arith) in
       ap (first (at after)) m ∙ first-more (at after) n
       ∙ rw (w .here h, sym e) (ap (λ xs. xs ++ b ∷ []) (first-same (at after) (at bytes) n (λ i l. w .elsewhere i (λ q. absurd (omega arith)))))
+
+  -- what the host learns of its bytes: the first ones of their bits are the shelf's
+  pub lent-first : (bits : List Bool) → lentBits space at bytes count ≡ bits → first (at bytes) (length bits) ≡ bits
+  unfolding lentBits
+  lent-first bits e = ap (first (at bytes)) (sym (ap length e) ∙ length-lent) ∙ e
+
+  pub lent-none : count ≡ 0 → lentBits space at bytes count ≡ []
+  lent-none e = nil-from-length (lentBits space at bytes count) (length-lent ∙ rw e (omega arith))

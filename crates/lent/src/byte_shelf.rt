@@ -15,6 +15,7 @@ use super::layout::Layout;
 
 // Bytes that the host lends to be written, as a shelf of bits: the first `count` bits that lie in them, at most as many as they
 // have room for.
+#[derive(Drop)]
 pub struct ByteShelf<'a, L> {
     layout: L,
     bytes: &'a mut [u8],
@@ -49,7 +50,8 @@ pub impl<L: Layout> Shelf for ByteShelf<'_, L> as ByteShelfShelf {
     ghost frame = { λ s. name (s .bytes) ∷ L·Layout .past (now (s .bytes)) };
 
     fn room(&self) -> usize {
-        L::room(self.bytes.len())
+        let bytes = self.bytes.len();
+        L::room(bytes)
     }
 
     fn put(&mut self, bit: bool) -> Result<(), Full> {

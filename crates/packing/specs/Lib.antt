@@ -1,1 +1,4 @@
 pub mod Faults
+pub mod Hexes
+pub mod Packs
+pub mod Texts

@@ -1,0 +1,4 @@
+pub mod Digits
+pub mod Standing
+pub mod Tables
+pub mod Division
