@@ -16,7 +16,7 @@ pub struct Full;
 #[derive(Clone, Copy, PartialEq, Eq, Debug)]
 pub struct Beyond;
 
-// A source that can be written too, up to a frame room.
+// A source that can be written too, up to a fixed room.
 pub trait Shelf: Source {
     // How many bits the shelf takes at the most.
     ghost space: { Self → ℕ };

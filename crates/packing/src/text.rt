@@ -41,7 +41,7 @@ fn all_digits(bytes: &[u8]) -> bool
 pub fn read_digits(text: &[u8]) -> Result<ByteSource<'_, Digits>, TextFault>
     ensures { λ r. ⌜ TextRead (now (text .entry)) r ⌝ }
 {
-    if text.len() > 65_536 {
+    if text.len() > LONGEST {
         return Err(TextFault::TooLong);
     }
     let digits = digits_of(text);

@@ -1,0 +1,17 @@
+pub mod Terms
+pub mod Somes
+pub mod Cells
+pub mod Marks
+pub mod Dominant
+pub mod Levels
+pub mod Likeness
+pub mod States
+pub mod Header
+pub mod RoundTrip
+pub mod Shapes
+pub mod Accepted
+pub mod Locality
+pub mod Lengths
+pub mod Cuts
+pub mod Nearness
+pub mod Previews

@@ -1,0 +1,5 @@
+use Rattle.stream.proofs.Accepted.{accepts-streams-only}
+use Rattle.stream.proofs.laws.only_streams_are_accepted.Needs as need
+
+pub returns : need.returns
+returns c = accepts-streams-only
