@@ -10,6 +10,7 @@ pub mod Header
 pub mod RoundTrip
 pub mod Shapes
 pub mod Accepted
+pub mod Exactly
 pub mod Locality
 pub mod Lengths
 pub mod Cuts

@@ -7,6 +7,7 @@ use mathlib.Core.Logic.{_⊎_, _↔_}
 use mathlib.Core.Path.{_≡_}
 use Prim.Native.Nat.{ℕ, zero, suc, max, _+_, _-_, _*_, _^_, _<_, _≤_}
 use Rattle.scan.specs.Tree.{HasChildren, Descendant, descends}
+use Rattle.std.specs.Results.{isOk}
 use Rattle.std.specs.declared.result.Result.{Result}
 use Rattle.std.specs.declared.result.Result.the-variants.{Ok, Err}
 use Rattle.stream.specs.Numbers.{Table, Placement, InCell, Alike, middle, negative, largest, level, quantized}
@@ -41,6 +42,10 @@ Reads-back = (place : Placement) (k f : ℕ) (t : List ℤ) → SideExponent k �
 abbrev pub Accepts-streams-only : Type 0
 Accepts-streams-only = (place : Placement) → InCell place → (k : ℕ) (bits : List Bool) (v : List ℤ) → SideExponent k
     → loaded place k bits ≡ Ok v → Table k v × ((f : ℕ) × FloorExponent f × (stream k f v ≡ bits))
+
+-- So a load accepts exactly the streams that tables give.
+abbrev pub Accepts-exactly : Type 0
+Accepts-exactly = (place : Placement) → InCell place → (k : ℕ) (bits : List Bool) → SideExponent k → (isOk (loaded place k bits) ≡ true) ↔ IsStream k bits
 
 -- ---- Previewing
 

@@ -1,5 +1,5 @@
 // The laws of streams. Each function does nothing: its contract is the law, which the check has it prove.
-ghost use Rattle.stream.specs.Laws.{Reads-back, Accepts-streams-only, Preview-bound, Locality, Nesting, Creep-bound, Appends, Longest, Longest-run, Levels, Family};
+ghost use Rattle.stream.specs.Laws.{Reads-back, Accepts-streams-only, Accepts-exactly, Preview-bound, Locality, Nesting, Creep-bound, Appends, Longest, Longest-run, Levels, Family};
 
 // A load accepts the stream of every table at every floor, and holds at each place what is heard of the number there.
 pub fn streams_are_read_back()
@@ -7,9 +7,11 @@ pub fn streams_are_read_back()
 {
 }
 
-// A load accepts nothing else: what it accepts is the stream of the table that it then holds, at some floor.
+// A load accepts nothing else: what it accepts is the stream of the table that it then holds, at some floor. So it accepts exactly the
+// streams that tables give.
 pub fn only_streams_are_accepted()
-    ensures { λ _. ⌜ Accepts-streams-only ⌝ }
+    ensures only { λ _. ⌜ Accepts-streams-only ⌝ }
+    ensures exactly { λ _. ⌜ Accepts-exactly ⌝ }
 {
 }
 
