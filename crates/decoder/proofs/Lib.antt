@@ -1,0 +1,17 @@
+pub mod Steps
+pub mod Items
+pub mod Shades
+pub mod Holding
+pub mod Walks
+pub mod Places
+pub mod Ends
+pub mod Comings
+pub mod Refinements
+pub mod Takings
+pub mod Hearing
+pub mod Starts
+pub mod Runs
+pub mod Flags
+pub mod Heirs
+pub mod Roots
+pub mod Spelling

@@ -1,0 +1,4 @@
+pub mod Cells
+pub mod Stages
+pub mod Machines
+pub mod Heirs
