@@ -1,13 +1,24 @@
 ghost use lib.ListN.{length, getD, take, drop};
 ghost use mathlib.Core.Bool.{false, cond};
 ghost use mathlib.Core.Path.{_≡_};
-ghost use Prim.Native.Nat.{_+_, _≤_};
+ghost use Prim.Native.Nat.{_+_, _<_, _≤_};
+ghost use Rattle.std.specs.Options.{Cases};
 ghost use Rattle.stream.specs.Reading.{spells};
 use bits::source::Answer;
 use bits::source::Source;
 
+// The side exponent that a source's header tells, whatever it is; none exactly if the source ends in the header.
+pub fn side_told<S: Source>(source: &S) -> Option<u32>
+    ensures { λ r. ⌜ Cases r (length (S·Source .bits (now (source .entry))) < 7) (λ k. (7 ≤ length (S·Source .bits (now (source .entry)))) × (k ≡ spells (take 3 (S·Source .bits (now (source .entry)))))) ⌝ }
+{
+    if source.count() < 7 {
+        return None;
+    }
+    Some(number(source, 0, 3))
+}
+
 // The number that `width` bits of the header spell from `start` on, highest first.
-pub fn number<S: Source>(source: &S, start: usize, width: usize) -> u32
+pub(crate) fn number<S: Source>(source: &S, start: usize, width: usize) -> u32
     requires { ⌜ start + width ≤ 7 ⌝ ∗ ⌜ 7 ≤ length (S·Source .bits (now source)) ⌝ }
     ensures { λ r. ⌜ r ≡ spells (take width (drop start (S·Source .bits (now (source .entry))))) ⌝ }
 {

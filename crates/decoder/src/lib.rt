@@ -8,6 +8,6 @@
 // the same numbers heard; items of the lent memory past the table's places stand.
 pub mod cell;
 pub mod decode;
-mod header;
+pub mod header;
 pub mod machine;
 mod missed;

@@ -36,6 +36,13 @@ impl Blank {
         }
     }
 
+    // The side of the tables that the slot takes.
+    pub fn side(&self) -> Side
+        ensures { λ r. ⌜ r ≡ now (self .entry) .side ⌝ }
+    {
+        self.side
+    }
+
     // Takes a whole stream, which is the entire source. The table is written only when the stream is accepted.
     pub fn load<S: Source, K: EntryKind>(
         self,
