@@ -10,7 +10,7 @@ use native.Mathlib.Omega.{arith}
 use Rattle.decoder.specs.Machines.{clear, markOf, marksOf, findingOf, findingsOf, plain}
 use Rattle.decoder.specs.declared.cell.Cell.{Cell}
 use Rattle.std.proofs.shelf.Lists.{getD-set-same, getD-set-other, getD-take, getD-past, length-map, length-take-le, length-take, length-drop, getD-drop, map-push, take-more-set, take-set, set-past, map-append, take-take, take-append-drop}
-use Rattle.std.proofs.shelf.Tests.{cases-eq, cases-lt, eq-eqb, eqb-true, or-cases, or-left, or-right, false≢true}
+use Rattle.std.proofs.shelf.Tests.{cases-eq, cases-lt, eqb-true, or-cases, false≢true}
 use Rattle.stream.specs.Passes.{Finding, skipped, isFound}
 
 -- A map keeps the item at an index, also past the end.
@@ -89,7 +89,7 @@ unfolding findingsOf isFound
 listed-kept cells after [] p = refl
 listed-kept cells after (q ∷ places) p = ap (λ (b : Bool). eqb q p || b) (listed-kept cells after places p)
 
--- A listed place is one of the list, and each of the list is listed.
+-- A listed place is one of the list.
 pub listed-where : (cells : List Cell) (places : List ℕ) (p : ℕ) → isFound (findingsOf cells places) p ≡ true → (i : ℕ) × (i < length places) × (getD places i 0 ≡ p)
 unfolding findingsOf isFound
 listed-where cells [] p t = absurd (false≢true t)
@@ -97,12 +97,6 @@ listed-where cells (q ∷ places) p t = elim (or-cases _ _ t) [
       | inl e ↦ (0, omega arith, eqb-true q p e)
       | inr r ↦ let s = listed-where cells places p r in (suc (s .0), omega arith, s .2)
     ]
-
-pub listed-at : (cells : List Cell) (places : List ℕ) (i : ℕ) → i < length places → isFound (findingsOf cells places) (getD places i 0) ≡ true
-unfolding findingsOf isFound
-listed-at cells [] i h = absurd (omega arith)
-listed-at cells (q ∷ places) zero h = or-left _ _ (eq-eqb q q refl)
-listed-at cells (q ∷ places) (suc i) h = or-right _ _ (listed-at cells places i (omega arith))
 
 -- An item of a part of a list.
 pub item-part : (found : List ℕ) (n m i : ℕ) → i < length (drop n (take m found)) → (getD (drop n (take m found)) i 0 ≡ getD found (n + i) 0) × (n + i < m)

@@ -38,9 +38,6 @@ test-due w s = elim (cases-lt 0 w) [
     ]
 
 module _ (k : ℕ) (m : Machine) (cells : List Cell) (found : List ℕ) (w : Walking k m cells found) (inside : m .place < 4 ^ k) where
-  marks : List Mark
-  marks = marksOf (m .place) cells
-
   length-is : length (marksOf (m .place) cells) ≡ m .place
   length-is = length-marks (m .place) cells (omega (arith, w .memory))
 

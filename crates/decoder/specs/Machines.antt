@@ -125,11 +125,13 @@ Listed k count cells found = (p : ℕ) → p < 4 ^ k → isFound (findingsOf cel
 
 -- A dominant pass behind the first `place` places.
 pub record Walking (k : ℕ) (m : Machine) (cells : List Cell) (found : List ℕ) : Type 0 where
+  -- the found places, in cells of at least the threshold's width
   pub held : Held k (m .exponent) (m .count) (findingOf cells) found
   -- there is memory for every place of the table
   pub memory : 4 ^ k ≤ length cells
   -- the threshold is at most 2 ^ 14
   pub small : m .exponent ≤ 14
+  -- no place past the table is come to
   pub inside : m .place ≤ 4 ^ k
   -- found before this pass, and found by now
   pub order : m .before ≤ m .count
@@ -146,29 +148,42 @@ pub record Walking (k : ℕ) (m : Machine) (cells : List Cell) (found : List ℕ
 -- A dominant pass that waits for a label, or the rest of it, at a place that is not found and not shaded.
 pub record Due (k : ℕ) (m : Machine) (cells : List Cell) (found : List ℕ) : Type 0 where
   pub walk : Walking k m cells found
+  -- it is a place of the table
   pub place-in : m .place < 4 ^ k
+  -- it is not found
   pub unknown : getD cells (m .place) clear .width ≡ 0
+  -- its flag says that it is not shaded
   pub unshaded : getD cells (m .place) clear .shaded ≡ false
+  -- and no ancestor is labelled zerotree root
   pub clear-above : underRoot (marksOf (m .place) cells) (m .place) ≡ false
 
 -- A subordinate pass behind the first `index` found places.
 pub record Refining (k : ℕ) (m : Machine) (cells : List Cell) (found : List ℕ) : Type 0 where
+  -- the found places, in cells of at least half the threshold's width
   pub held : Held k (m .exponent - 1) (m .count) (findingOf cells) found
+  -- they are all that have a width
   pub listed : Listed k (m .count) cells found
+  -- there is memory for every place of the table
   pub memory : 4 ^ k ≤ length cells
   -- the threshold is at least 2 and at most 2 ^ 14
   pub low : 1 ≤ m .exponent
   pub small : m .exponent ≤ 14
+  -- something is found
   pub some : 0 < m .count
+  -- no more are refined than are found
   pub inside : m .index ≤ m .count
   -- the cells that are not refined yet have at least the threshold's width
   pub unrefined : (i : ℕ) → m .index ≤ i → i < m .count → 2 ^ (m .exponent) ≤ findingOf cells (getD found i 0) .width
 
 -- Every pass is over.
 pub record Over (k : ℕ) (m : Machine) (cells : List Cell) (found : List ℕ) : Type 0 where
+  -- the found places
   pub held : Held k 0 (m .count) (findingOf cells) found
+  -- they are all that have a width
   pub listed : Listed k (m .count) cells found
+  -- there is memory for every place of the table
   pub memory : 4 ^ k ≤ length cells
+  -- a full stream can end here
   pub ended : m .whole ≡ true
 
 -- What a machine keeps from bit to bit, by what it waits for.

@@ -13,11 +13,10 @@ use super::cell::Cell;
 use super::header::number;
 use super::machine::Machine;
 
-// What a source came to: whether it ends where a full stream can end, and how many places were found.
+// What a source came to: whether it ends where a full stream can end.
 #[derive(Clone, Copy, Debug)]
 pub struct Decoded {
     pub whole: bool,
-    pub count: usize,
 }
 
 // Nothing is found at the first places.
@@ -50,5 +49,5 @@ pub fn decode<S: Source>(side: Side, source: &S, cells: &mut [Cell], found: &mut
         };
         machine.take(side, bit, index, cells, found)?;
     }
-    Ok(Decoded { whole: machine.whole, count: machine.count })
+    Ok(Decoded { whole: machine.whole })
 }

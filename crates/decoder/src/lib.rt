@@ -9,5 +9,5 @@
 pub mod cell;
 pub mod decode;
 pub mod header;
-pub mod machine;
+mod machine;
 mod missed;

@@ -1,9 +1,9 @@
+ghost use lib.Dec.{eqb};
 ghost use lib.ListN.{length, getD, set};
 ghost use mathlib.Core.Bool.{false, not, _&&_};
 ghost use mathlib.Core.List.{List};
 ghost use mathlib.Core.Path.{_≡_};
-ghost use lib.Dec.{eqb};
-ghost use Prim.Native.Nat.{ℕ, _+_, _/_, _^_, _<_, _≤_};
+ghost use Prim.Native.Nat.{ℕ, _+_, _^_, _<_, _≤_};
 ghost use Rattle.decoder.specs.Cells.{StandPast};
 ghost use Rattle.decoder.specs.Machines.{clear, started, passed, withMark, findingOne, foundAt, shadeAt, reached, refinedOne, halvedCell, stageOf, stageBy, Walking, Refining, Sound, Comes, Takes};
 ghost use Rattle.decoder.specs.declared.machine.Waiting.the-variants.{First, Subordinate};
