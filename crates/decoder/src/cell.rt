@@ -3,6 +3,7 @@ ghost use Rattle.decoder.specs.Cells.{cellNumber};
 
 // What the present dominant pass says of a place.
 #[derive(Clone, Copy, PartialEq, Eq, Debug)]
+#[repr(u8)]
 pub enum Mark {
     // Passed over, or not come to yet.
     Skipped,

@@ -1,49 +1,46 @@
--- What previewing a text comes to.
+-- What the previewing program prints of a text. Checks run in this order: the text, the header's length, the side, and then those of a preview.
+use lib.Chars.{codes}
+use lib.Dec.{leb, ltb}
 use lib.IntN.{ℤ}
 use lib.ListN.{length, take}
-use mathlib.Core.Bool.{Bool}
-use mathlib.Core.List.{List}
-use mathlib.Core.Logic.{_⊎_}
-use mathlib.Core.Path.{_≡_}
-use Prim.Native.Nat.{ℕ, _^_, _<_, _≤_}
-use Rattle.decoder.specs.declared.cell.Cell.{Cell}
-use Rattle.packing.specs.Texts.{IsText, TextRefused, bitsOf}
-use Rattle.previewing.specs.declared.fault.PreviewFault.{PreviewFault}
-use Rattle.previewing.specs.declared.fault.PreviewFault.the-variants.{Text, Slot}
-use Rattle.scan.specs.declared.side.Side.{Side}
-use Rattle.slots.specs.Slots.{Suffices}
-use Rattle.slots.specs.declared.fault.SlotFault.{SlotFault}
-use Rattle.slots.specs.declared.fault.SlotFault.the-variants.{NoSide, ShortMemory, NoPlace, Stream}
+use mathlib.Core.Bool.{Bool, cond, _&&_}
+use mathlib.Core.List.{List, [], _∷_, _++_}
+use Prim.Native.Nat.{ℕ}
+use Rattle.packing.specs.Faults.{textRefusal}
+use Rattle.packing.specs.Texts.{allDigits, digitsOf, bitsOf}
+use Rattle.packing.specs.declared.fault.TextFault.the-variants.{TooLong, NoDigit}
+use Rattle.refusal.specs.declared.Refusal.{Refusal}
+use Rattle.showing.specs.Shown.{shownTable}
+use Rattle.slots.specs.Faults.{slotRefusal}
+use Rattle.slots.specs.declared.fault.SlotFault.the-variants.{NoSide}
+use Rattle.std.specs.Written.{decimal}
 use Rattle.std.specs.declared.result.Result.{Result}
 use Rattle.std.specs.declared.result.Result.the-variants.{Ok, Err}
-use Rattle.stream.specs.Laws.{SideExponent}
+use Rattle.stream.specs.Faults.{streamRefusal}
 use Rattle.stream.specs.Numbers.{middle}
-use Rattle.stream.specs.Reading.{previewed, spells}
+use Rattle.stream.specs.Reading.{spells, previewed}
+use Rattle.stream.specs.declared.fault.StreamFault.{StreamFault}
+use Rattle.stream.specs.declared.fault.StreamFault.the-variants.{HeaderCut}
 
--- Each of the four lent slices has an item for every place.
-abbrev pub Suffices4 : {Row : Type 0} → ℕ → List Row → List Cell → List ℕ → List ℤ → Type 0
-Suffices4 k table cells found numbers = Suffices k table cells found × (4 ^ k ≤ length numbers)
+-- The line that tells a refusal: its number and its place.
+unfoldable pub refusalLine : Refusal → List ℕ
+refusalLine r = codes "refused " ++ (decimal (r .number) ++ (codes " at " ++ (decimal (r .place) ++ 10 ∷ [])))
 
--- All numbers are told.
-abbrev pub Told : List ℤ → List ℤ → Result (Unit {0}) SlotFault → Type 0
-Told heard numbers (Ok u) = numbers ≡ heard
-Told heard numbers (Err fault) = ⊥
+-- What a preview came to: a table of 2 ^ k rows, or the stream's fault.
+abbrev pub shownOutcome : ℕ → Result (List ℤ) StreamFault → List ℕ
+shownOutcome k (Ok numbers) = shownTable k numbers
+shownOutcome k (Err fault) = refusalLine (streamRefusal fault)
 
--- The side exponent that the header of these bits tells.
-abbrev pub sideTold : List Bool → ℕ
-sideTold bits = spells (take 3 bits)
+-- Bits whose header tells the side exponent k: previewed if there is such a side.
+unfoldable pub shownSide : ℕ → List Bool → List ℕ
+shownSide k bits = cond (leb 1 k && leb k 6) (shownOutcome k (previewed middle k bits)) (refusalLine (slotRefusal NoSide))
 
--- Why bits are not previewed, with memory for tables of at most so many places: the header is cut short; or it tells no side; or the memory is short; or
--- the stream has a fault.
-abbrev pub BitsRefused : Type 0 → List Bool → SlotFault → Type 0
-BitsRefused enough bits NoSide = (7 ≤ length bits) × (SideExponent (sideTold bits) → ⊥)
-BitsRefused enough bits ShortMemory = SideExponent (sideTold bits) × (enough → ⊥)
-BitsRefused enough bits NoPlace = ⊥
-BitsRefused enough bits (Stream fault) = ((length bits < 7) ⊎ SideExponent (sideTold bits)) × (previewed middle (sideTold bits) bits ≡ Err fault)
+-- Bits: the first three of the header's seven spell the side exponent.
+unfoldable pub shownBits : List Bool → List ℕ
+shownBits bits = cond (ltb (length bits) 7) (refusalLine (streamRefusal (HeaderCut (length bits)))) (shownSide (spells (take 3 bits)) bits)
 
--- A text is previewed: these are the numbers heard of its bits, for a table of the side that its header tells. Or it is refused.
-abbrev pub TextPreviewed : Type 0 → List ℕ → List ℤ → Result Side PreviewFault → Type 0
-TextPreviewed enough text numbers (Ok side) =
-    IsText text × (side .exponent ≡ sideTold (bitsOf text)) × (previewed middle (side .exponent) (bitsOf text) ≡ Ok (take (4 ^ side .exponent) numbers))
-TextPreviewed enough text numbers (Err (Text fault)) = TextRefused text fault
-TextPreviewed enough text numbers (Err (Slot fault)) = IsText text × BitsRefused enough (bitsOf text) fault
+-- A text: of at most 65,536 bytes, and all digits.
+unfoldable pub shownText : List ℕ → List ℕ
+shownText text =
+    cond (ltb 65536 (length text)) (refusalLine (textRefusal TooLong))
+    (cond (allDigits (digitsOf text)) (shownBits (bitsOf text)) (refusalLine (textRefusal NoDigit)))

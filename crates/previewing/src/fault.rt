@@ -1,33 +1,22 @@
 ghost use mathlib.Core.Path.{_≡_};
-ghost use Rattle.previewing.specs.Faults.{previewRefusal};
-ghost use Rattle.previewing.specs.declared.fault.PreviewFault.the-variants.{Text, Slot};
+ghost use Rattle.previewing.specs.declared.fault.PreviewFault.the-variants.{Text, Slot, NoMemory};
+ghost use Rattle.slots.specs.declared.fault.SlotFault.the-variants.{Stream};
 use packing::fault::TextFault;
 use packing::fault::TextFaultDebug;
-use packing::fault::TextFaultFault;
 use packing::fault::TextFaultPartialEq;
-use refusal::Fault;
-use refusal::Refusal;
 use slots::fault::SlotFault;
 use slots::fault::SlotFaultDebug;
-use slots::fault::SlotFaultFault;
 use slots::fault::SlotFaultPartialEq;
+use std::alloc::AllocError;
+use std::alloc::Refused;
+use stream::fault::StreamFault;
 
-// Why a text is not previewed: the text's own fault, or that of the slot.
+// Why there is no preview of a text.
 #[derive(Clone, Copy, PartialEq, Eq, Debug)]
 pub enum PreviewFault {
     Text(TextFault),
     Slot(SlotFault),
-}
-
-pub impl Fault for PreviewFault as PreviewFaultFault {
-    ghost meaning = { previewRefusal };
-
-    fn refusal(&self) -> Refusal {
-        match self {
-            PreviewFault::Text(fault) => fault.refusal(),
-            PreviewFault::Slot(fault) => fault.refusal(),
-        }
-    }
+    NoMemory,
 }
 
 pub impl From<TextFault> for PreviewFault as PreviewFromText {
@@ -43,5 +32,29 @@ pub impl From<SlotFault> for PreviewFault as PreviewFromSlot {
 
     fn from(fault: SlotFault) -> Self {
         PreviewFault::Slot(fault)
+    }
+}
+
+pub impl From<StreamFault> for PreviewFault as PreviewFromStream {
+    ghost converts = { λ fault r. r ≡ Slot (Stream fault) };
+
+    fn from(fault: StreamFault) -> Self {
+        PreviewFault::Slot(SlotFault::Stream(fault))
+    }
+}
+
+pub impl From<AllocError> for PreviewFault as PreviewFromAlloc {
+    ghost converts = { λ _ r. r ≡ NoMemory };
+
+    fn from(_: AllocError) -> Self {
+        PreviewFault::NoMemory
+    }
+}
+
+pub impl<T: Drop> From<Refused<T>> for PreviewFault as PreviewFromRefused {
+    ghost converts = { λ _ r. r ≡ NoMemory };
+
+    fn from(_: Refused<T>) -> Self {
+        PreviewFault::NoMemory
     }
 }

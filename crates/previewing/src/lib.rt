@@ -1,9 +1,12 @@
-// Previewing a text of digits: what the previewing program prints.
+// Previews of a stream in digits, as text: what the previewing program prints.
 //
-// The side is taken from the stream itself. Checks run in this order: the text, the header's length, the side, and then those of a
-// preview.
-//
-// Promised: the numbers are those that the definition of previewing hears of the text's bits; a refusal is the first that applies, and
-// the lower layers' faults are passed up entire.
+// The text is read as bits, the header's first three bits name the side of the table, and the table is previewed in a slot, with
+// memory for the largest one. Promised: what is printed is exactly the text of specs/Previews.antt: the table as it is heard, row by
+// row, or one line with the number and the place of the refusal.
 pub mod fault;
+mod header;
+mod hearing;
+mod lines;
 pub mod preview;
+#[cfg(test)]
+mod tests;
