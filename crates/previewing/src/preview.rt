@@ -46,9 +46,7 @@ fn side_lines<S: Source>(heap: Global, exponent: u32, source: &S) -> Result<Stri
     ensures { λ r. ⌜ Cases r (λ lines. string-bytes lines ≡ shownSide exponent (S·Source .bits (now (source .entry)))) (ToldBy (shownSide exponent (S·Source .bits (now (source .entry))))) ⌝ }
 {
     let blank = Blank::new(exponent)?;
-    let Some(side) = Side::new(exponent) else {
-        unreachable()
-    };
+    let side = blank.side();
     let numbers = hear(heap, side, blank, source)?;
     table_lines(heap, side, &numbers)
 }

@@ -1,6 +1,7 @@
 use mathlib.Core.Path.{ap, sym, _∙_}
 use Rattle.previewing.proofs.Prints.{side-heard, side-unheard, side-none}
 use Rattle.previewing.specs.Previews.{refusalLine}
+use Rattle.scan.specs.declared.side.Side.{Side}
 use Rattle.slots.specs.Faults.{slotRefusal}
 use Rattle.slots.specs.declared.fault.SlotFault.{SlotFault}
 use Rattle.std.proofs.shelf.Results.{err-from-errBy}
@@ -17,9 +18,9 @@ pub returns-in-Break-numbers : need.returns-in-Break-numbers
 returns-in-Break-numbers g c =
     let p = err-from-errBy (c .from-residual-in-Break-numbers .result) (c .from-residual-in-Break-numbers .ensures .1) in
     rw (p .1, p .2)
-    (side-unheard (c .in-Some .side .exponent) (c .args .exponent) (g .S·Source .bits (c .args .source .now)) (c .in-Break-numbers .field-0 .0) (c .in-Some .ensures tt) (c .in-Continue-blank .ensures tt .0) (c .in-Break-numbers .ensures tt))
+    (side-unheard (c .side-side .result .exponent) (c .args .exponent) (g .S·Source .bits (c .args .source .now)) (c .in-Break-numbers .field-0 .0) (ap (λ (side : Side). side .exponent) (c .side-side .ensures) ∙ c .in-Continue-blank .ensures tt .1) (c .in-Continue-blank .ensures tt .0) (c .in-Break-numbers .ensures tt))
 
 pub returns : need.returns
 returns g c =
-    side-heard string-bytes (c .in-Some .side .exponent) (c .args .exponent) (g .S·Source .bits (c .args .source .now)) _ (c .deref .result .now) _
-    (c .in-Some .ensures tt) (c .in-Continue-blank .ensures tt .0) (c .in-Continue-numbers .ensures tt .0) (c .deref .ensures .value) (c .table-lines .ensures)
+    side-heard string-bytes (c .side-side .result .exponent) (c .args .exponent) (g .S·Source .bits (c .args .source .now)) _ (c .deref .result .now) _
+    (ap (λ (side : Side). side .exponent) (c .side-side .ensures) ∙ c .in-Continue-blank .ensures tt .1) (c .in-Continue-blank .ensures tt .0) (c .in-Continue-numbers .ensures tt .0) (c .deref .ensures .value) (c .table-lines .ensures)
