@@ -1,5 +1,7 @@
 // Times loads, for the benchmark: bench_load EXPONENT COUNT REPEATS, with the packed stream of COUNT bits on standard input. What was
 // loaded goes to standard output, the time of one load to standard error.
+#![tactic(auto)]
+
 use decoder::cell::Cell;
 use entries::surface::Surface;
 use input::read_text;

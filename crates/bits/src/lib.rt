@@ -7,6 +7,8 @@
 //
 // Promised: a question alters nothing; a put adds one bit at the end or is refused as full and alters nothing; a cut leaves the
 // first bits or is refused as beyond and alters nothing; the room never changes.
+#![tactic(auto)]
+
 pub mod copy;
 pub mod limit;
 pub mod prefix;

@@ -6,6 +6,8 @@
 //
 // Promised: for every source, `decode` comes to exactly what the definition of reading says: the same fault, at the same place, or
 // the same numbers heard; items of the lent memory past the table's places stand.
+#![tactic(auto)]
+
 pub mod cell;
 pub mod decode;
 pub mod header;

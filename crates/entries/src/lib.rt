@@ -10,6 +10,8 @@
 // Promised: the number told of an entry is in range; an entry or a row made of a number in range tells that number again, and of no
 // other number is one made; every row stands for one entry, and every entry has a row that stands for it. Of surface and partial
 // entries also: a row that no entry has stands for the entry of 0, and no partial entry has level 0 with inverted polarity.
+#![tactic(auto)]
+
 pub mod kind;
 pub mod partial;
 pub mod partial_kind;

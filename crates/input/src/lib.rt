@@ -1,4 +1,6 @@
 // Standard input, as far as a text of digits may go: what the programs read.
+#![tactic(auto)]
+
 ghost use Rattle.std.specs.Prelude.{◌≤◌, IfOk, vec_len};
 
 use std::io;

@@ -5,6 +5,8 @@
 //
 // Promised: the first bits that lie in the bytes, up to the count, are the list of bits; no more than 131,072 of them; a count above
 // the room is taken as the room. Writing leaves the bits before the count, the bytes past the room, and after a refusal every byte.
+#![tactic(auto)]
+
 pub mod byte_shelf;
 pub mod byte_source;
 pub mod layout;

@@ -1,5 +1,7 @@
 // Packs a stream in digits: reads a text of '0' and '1' from standard input and prints how many bits it has and the packed bytes
 // in hexadecimal, or `refused n at b`.
+#![tactic(auto)]
+
 use input::read_text;
 use packing::fault::PackFault;
 use packing::hex::hex;

@@ -2,6 +2,8 @@
 //
 // Promised: which texts are refused, by which number, and that nothing is altered then; that the bits put are the text's digits; and
 // what the host's bytes hold afterwards.
+#![tactic(auto)]
+
 pub mod fault;
 pub mod hex;
 pub mod pack;

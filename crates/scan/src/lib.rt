@@ -10,6 +10,8 @@
 // Every function takes every input, and its contract pins the answer: the bit rule and there and back for positions
 // (specs/Places.antt), the rule of the tree for parents and children (specs/Tree.antt). `descendants_by_division`
 // promises that ancestors are found by dividing by four.
+#![tactic(auto)]
+
 mod places;
 mod side;
 #[cfg(test)]

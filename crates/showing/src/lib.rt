@@ -2,6 +2,8 @@
 //
 // The numbers are given in scan order (Morton order); the lines show them by row and column. Promised: the text is exactly the one
 // of specs/Shown.antt, for every side and all numbers; a table with too few numbers is refused, and every row is written or none.
+#![tactic(auto)]
+
 pub mod fault;
 pub mod table;
 #[cfg(test)]

@@ -22,14 +22,16 @@ fn number_at(side: Side, numbers: &[i32], row: usize, column: usize) -> i32
 fn push_number(text: &mut String, number: i32) -> fmt::Result
     ensures { OnOk result (string_bytes text.new ≡ string_bytes text.old ++ shown_number number) }
 {
-    write!(text, "{number}")
+    write!(text, "{number}")?;
+    Ok(())
 }
 
 // Writes a space and a number behind the text.
 fn push_next(text: &mut String, number: i32) -> fmt::Result
     ensures { OnOk result (string_bytes text.new ≡ string_bytes text.old ++ shown_next number) }
 {
-    write!(text, " {number}")
+    write!(text, " {number}")?;
+    Ok(())
 }
 
 // Writes one row behind the text.

@@ -16,6 +16,8 @@
 // - settling makes the numbers heard the table's own; clearing keeps the table;
 // - a number that is read is the one at that place, and in range;
 // - short memory is refused before anything else, and items past the table's places always stand.
+#![tactic(auto)]
+
 pub mod blank;
 pub mod fault;
 pub mod heard;

@@ -5,5 +5,7 @@
 // specs/Lib.antt); every contract of the codec cites these definitions. It has no codec code. What it promises are the laws, each on
 // the contract of a function that does nothing else: loads accept just the streams of tables and hold what is heard of them,
 // previews are near, resaves do not creep.
+#![tactic(auto)]
+
 pub mod fault;
 pub mod laws;

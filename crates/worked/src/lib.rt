@@ -1,4 +1,6 @@
 // The worked examples of the format, proved by computation on the definitions of streams, all in one place: specs/Examples.antt.
+#![tactic(auto)]
+
 ghost use Rattle.worked.specs.Examples.{FirstTable, Cuts, Resaves, SmallTables, Refusals, Ancestors};
 
 pub fn examples_hold()

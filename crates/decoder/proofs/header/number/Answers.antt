@@ -5,11 +5,11 @@ use Rattle.decoder.proofs.header.number.Goals as goal
 pub loop-index-init : goal.loop-index-init
 loop-index-init g c = spells_none (g.S.Source.bits c.args.source.now) c.args.start
 
-pub overflow-mul-value : goal.overflow-mul-value
-overflow-mul-value g c = omega (arith, spells_few (g.S.Source.bits c.args.source.now) c.args.start c.loop-index.index (omega arith), c.loop-index.invariant)
+pub overflow_mul-value : goal.overflow_mul-value
+overflow_mul-value g c = omega (arith, spells_few (g.S.Source.bits c.args.source.now) c.args.start c.loop-index.index (omega arith), c.loop-index.invariant)
 
-pub overflow-add-value : goal.overflow-add-value
-overflow-add-value g c =
+pub overflow_add-value : goal.overflow_add-value
+overflow_add-value g c =
     let more = spells_more (g.S.Source.bits c.args.source.now) c.args.start c.loop-index.index (omega arith) (omega arith) in
     let few = spells_few (g.S.Source.bits c.args.source.now) c.args.start (c.loop-index.index + 1) (omega arith) in
     omega (arith, c.loop-index.invariant, c.digit.ensures)

@@ -10,38 +10,38 @@ returns-then-self-eq0 c = record {
   stand = refl;
 }
 
-pub returns-then-missed-root : goal.returns-then-missed-root
-returns-then-missed-root c = record {
+pub returns-then-missed_root : goal.returns-then-missed_root
+returns-then-missed_root c = record {
   comes = λ found w last. end_missed c.args.side.exponent c.args.self.now c.args.cells.now found w last (omega (arith, c.if-self-eq0.false))
-      (sym c.if-missed-root.ensures.tells) c.args.taken;
-  stand = c.missed-root.ensures.stand;
+      (sym c.if-missed_root.ensures.tells) c.args.taken;
+  stand = c.missed_root.ensures.stand;
 }
 
 pub returns-then-self-eq0-2 : goal.returns-then-self-eq0-2
 unfolding stage_of
 returns-then-self-eq0-2 c = record {
   comes = λ found w last.
-      let told = told_plain c.args.cells.now c.missed-root.new.cells c.missed-root.ensures.same in (
+      let told = told_plain c.args.cells.now c.missed_root.new.cells c.missed_root.ensures.same in (
         end_over c.args.side.exponent c.args.self.now c.args.cells.now found w last (omega (arith, c.if-self-eq0.false))
-            (sym c.if-missed-root.ensures.tells) c.missed-root.new.cells told c.missed-root.auto.cells c.if-self-eq0-2.true,
+            (sym c.if-missed_root.ensures.tells) c.missed_root.new.cells told c.missed_root.auto.cells c.if-self-eq0-2.true,
         end_finished c.args.side.exponent c.args.self.now c.args.cells.now found w last (omega (arith, c.if-self-eq0.false))
-            (sym c.if-missed-root.ensures.tells) c.missed-root.new.cells told c.missed-root.auto.cells c.if-self-eq0-2.true c.args.taken,
+            (sym c.if-missed_root.ensures.tells) c.missed_root.new.cells told c.missed_root.auto.cells c.if-self-eq0-2.true c.args.taken,
       );
-  stand = c.missed-root.ensures.stand;
+  stand = c.missed_root.ensures.stand;
 }
 
 pub returns : goal.returns
 unfolding stage_of
 returns c = record {
   comes = λ found w last.
-      let told = told_plain c.args.cells.now c.missed-root.new.cells c.missed-root.ensures.same in (
+      let told = told_plain c.args.cells.now c.missed_root.new.cells c.missed_root.ensures.same in (
         (
           end_refining c.args.side.exponent c.args.self.now c.args.cells.now found w last (omega (arith, c.if-self-eq0.false))
-              (sym c.if-missed-root.ensures.tells) c.missed-root.new.cells told c.missed-root.auto.cells (omega (arith, c.if-self-eq0-2.false)),
+              (sym c.if-missed_root.ensures.tells) c.missed_root.new.cells told c.missed_root.auto.cells (omega (arith, c.if-self-eq0-2.false)),
           omega (arith, c.if-self-eq0.false),
         ),
         end_begins c.args.side.exponent c.args.self.now c.args.cells.now found w last (omega (arith, c.if-self-eq0.false))
-            (sym c.if-missed-root.ensures.tells) c.missed-root.new.cells told c.missed-root.auto.cells (omega (arith, c.if-self-eq0-2.false)) c.args.taken,
+            (sym c.if-missed_root.ensures.tells) c.missed_root.new.cells told c.missed_root.auto.cells (omega (arith, c.if-self-eq0-2.false)) c.args.taken,
       );
-  stand = c.missed-root.ensures.stand;
+  stand = c.missed_root.ensures.stand;
 }

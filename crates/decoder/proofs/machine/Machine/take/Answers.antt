@@ -25,8 +25,8 @@ returns-in-First-default c =
         λ count rest _. ap (λ (s : Stage). meaning c.args.side.exponent count s (c.args.bit ∷ rest))
             (sym (stage_by_lem c.args.self.now c.args.cells.now c.args.found.now First c.in-First-default.is-0)),
       );
-      cells-stand = refl;
-      found-stands = refl;
+      cells_stand = refl;
+      found_stands = refl;
     }
 
 -- ---- The second bit: significant
@@ -52,31 +52,31 @@ returns-in-Second-true-default c =
           ∙ ap (λ (s : Stage). meaning c.args.side.exponent count s (c.args.bit ∷ rest))
           (sym (stage_by_lem c.args.self.now c.args.cells.now c.args.found.now (Second true) e)))
           c.walk.ensures.comes;
-      cells-stand = c.walk.ensures.stand ∙ stands_set _ _ _ _ _ _ c.find.ensures.cell due.0.IsPlace-in refl;
-      found-stands = stands_set _ _ _ _ _ _ c.find.ensures.item fits.3 refl;
+      cells_stand = c.walk.ensures.stand ∙ stands_set _ _ _ _ _ _ c.find.ensures.cell due.0.place_in refl;
+      found_stands = stands_set _ _ _ _ _ _ c.find.ensures.item fits.3 refl;
     }
 
 -- ---- The second bit: a zerotree root, or an isolated zero
 
-pub returns-then-not-has-children : goal.returns-then-not-has-children
-returns-then-not-has-children c =
+pub returns-then-not-has_children : goal.returns-then-not-has_children
+returns-then-not-has_children c =
     let e : c.args.self.now.waiting ≡ Second false = cc in
     let due = by_sound c.args.side.exponent c.args.self.now c.args.cells.now c.args.found.now (Second false) e c.requires.sound in
-    let leaf = children_test c.args.side.exponent c.args.self.now.place false (c.args.side.low, c.args.side.high) c.if-not-has-children.ensures.decides in
+    let leaf = children_test c.args.side.exponent c.args.self.now.place false (c.args.side.low, c.args.side.high) c.if-not-has_children.ensures.decides in
     record {
       takes = λ count rest taken.
           ap (λ (s : Stage). meaning c.args.side.exponent count s (c.args.bit ∷ rest)) (stage_by_lem c.args.self.now c.args.cells.now c.args.found.now (Second false) e)
           ∙ ap (λ (b : Bool). meaning c.args.side.exponent count (stage_by (Second false) c.args.self.now c.args.cells.now c.args.found.now) (b ∷ rest)) c.in-Second-false-true.is-1
           ∙ leaf_fails c.args.side.exponent c.args.self.now c.args.cells.now c.args.found.now due.0 leaf (c.args.index + 1) count rest taken;
-      cells-stand = refl;
-      found-stands = refl;
+      cells_stand = refl;
+      found_stands = refl;
     }
 
-pub returns-else-not-has-children : goal.returns-else-not-has-children
-returns-else-not-has-children c =
+pub returns-else-not-has_children : goal.returns-else-not-has_children
+returns-else-not-has_children c =
     let e : c.args.self.now.waiting ≡ Second false = cc in
     let due = by_sound c.args.side.exponent c.args.self.now c.args.cells.now c.args.found.now (Second false) e c.requires.sound in
-    let parent = children_test c.args.side.exponent c.args.self.now.place true (c.args.side.low, c.args.side.high) c.if-not-has-children.ensures.decides in
+    let parent = children_test c.args.side.exponent c.args.self.now.place true (c.args.side.low, c.args.side.high) c.if-not-has_children.ensures.decides in
     record {
       takes = take_label c.args.side.exponent (c.args.index + 1) c.args.bit (stage_of c.args.self.now c.args.cells.now c.args.found.now)
           _ _ _ _ _ _ _ _ c.walk-in-Second-false-true.result c.label.ensures.machine c.label.ensures.cell refl
@@ -86,8 +86,8 @@ returns-else-not-has-children c =
           ∙ ap (λ (b : Bool). meaning c.args.side.exponent count (stage_by (Second false) c.args.self.now c.args.cells.now c.args.found.now) (b ∷ rest)) (sym c.in-Second-false-true.is-1)
           ∙ ap (λ (s : Stage). meaning c.args.side.exponent count s (c.args.bit ∷ rest)) (sym (stage_by_lem c.args.self.now c.args.cells.now c.args.found.now (Second false) e)))
           c.walk-in-Second-false-true.ensures.comes;
-      cells-stand = c.walk-in-Second-false-true.ensures.stand ∙ stands_set _ _ _ _ _ _ c.label.ensures.cell due.0.IsPlace-in refl;
-      found-stands = refl;
+      cells_stand = c.walk-in-Second-false-true.ensures.stand ∙ stands_set _ _ _ _ _ _ c.label.ensures.cell due.0.place_in refl;
+      found_stands = refl;
     }
 
 pub returns-in-Second-false-false : goal.returns-in-Second-false-false
@@ -104,8 +104,8 @@ returns-in-Second-false-false c =
           ∙ ap (λ (b : Bool). meaning c.args.side.exponent count (stage_by (Second false) c.args.self.now c.args.cells.now c.args.found.now) (b ∷ rest)) (sym c.in-Second-false-false.is-1)
           ∙ ap (λ (s : Stage). meaning c.args.side.exponent count s (c.args.bit ∷ rest)) (sym (stage_by_lem c.args.self.now c.args.cells.now c.args.found.now (Second false) e)))
           c.walk-in-Second-false-false.ensures.comes;
-      cells-stand = c.walk-in-Second-false-false.ensures.stand ∙ stands_set _ _ _ _ _ _ c.label-in-Second-false-false.ensures.cell due.0.IsPlace-in refl;
-      found-stands = refl;
+      cells_stand = c.walk-in-Second-false-false.ensures.stand ∙ stands_set _ _ _ _ _ _ c.label-in-Second-false-false.ensures.cell due.0.place_in refl;
+      found_stands = refl;
     }
 
 -- ---- A subordinate bit
@@ -114,22 +114,22 @@ pub refine-requires : goal.refine-requires
 refine-requires c =
     let sub = by_sound c.args.side.exponent c.args.self.now c.args.cells.now c.args.found.now Subordinate c.in-Subordinate-default.is-0 c.requires.sound in
     let fits = refine_fits c.args.side.exponent c.args.self.now c.args.cells.now c.args.found.now sub.0 sub.1 in
-    record { 0 = (fits.0, omega (arith, fits.1, sub.0.memory)); fits = fits.2 }
+    record { index_in_bounds = (fits.0, omega (arith, fits.1, sub.0.memory)); fits = fits.2 }
 
 pub returns-in-Subordinate-default : goal.returns-in-Subordinate-default
 returns-in-Subordinate-default c =
     let sub = by_sound c.args.side.exponent c.args.self.now c.args.cells.now c.args.found.now Subordinate c.in-Subordinate-default.is-0 c.requires.sound in
     record {
       takes = take_refine c.args.side.exponent (c.args.index + 1) c.args.bit (stage_of c.args.self.now c.args.cells.now c.args.found.now)
-          (refined_by c.args.self.now) _ _ _ c.args.found.now _ _ c.next-refinement.result c.refine.ensures.machine c.refine.ensures.cell
+          (refined_by c.args.self.now) _ _ _ c.args.found.now _ _ c.next_refinement.result c.refine.ensures.machine c.refine.ensures.cell
           (refine_step c.args.side.exponent c.args.self.now c.args.cells.now c.args.found.now sub.0 c.args.bit sub.1) refl
           (λ count rest.
           refine_meaning c.args.side.exponent c.args.self.now c.args.cells.now c.args.found.now sub.0 c.args.bit sub.1 count rest
           ∙ ap (λ (s : Stage). meaning c.args.side.exponent count s (c.args.bit ∷ rest)) (sym (stage_by_lem c.args.self.now c.args.cells.now c.args.found.now Subordinate c.in-Subordinate-default.is-0)))
-          c.next-refinement.ensures.comes;
-      cells-stand = c.next-refinement.ensures.stand
+          c.next_refinement.ensures.comes;
+      cells_stand = c.next_refinement.ensures.stand
           ∙ stands_set _ _ _ _ _ _ c.refine.ensures.cell (refine_fits c.args.side.exponent c.args.self.now c.args.cells.now c.args.found.now sub.0 sub.1).1 refl;
-      found-stands = refl;
+      found_stands = refl;
     }
 
 -- ---- A bit too many
@@ -141,6 +141,6 @@ returns-in-Nothing-default c = record {
       ap (λ (s : Stage). meaning c.args.side.exponent count s (c.args.bit ∷ rest)) (stage_by_lem c.args.self.now c.args.cells.now c.args.found.now Nothing c.in-Nothing-default.is-0)
       ∙ bits_after c.args.side.exponent count _ c.args.bit rest
       ∙ ap (λ (n : ℕ). refused (BitsAfterEnd n)) here;
-  cells-stand = refl;
-  found-stands = refl;
+  cells_stand = refl;
+  found_stands = refl;
 }

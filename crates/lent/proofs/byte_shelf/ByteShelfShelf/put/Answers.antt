@@ -19,6 +19,6 @@ returns g c =
             (omega arith) (omega arith) same c.set.ensures,
       );
       stays = ap space same;
-      stands = ap (λ rest. c.args.self.now.bytes.name ∷ rest) c.set.ensures.beyond;
+      stands = ap (λ rest. c.args.self.now.bytes.ghost_name ∷ rest) c.set.ensures.beyond;
       unaltered = tt;
     }
