@@ -12,7 +12,7 @@ use Rattle.packing.specs.declared.fault.PackFault.TheVariants.{Text, Shelf}
 module _ (text before after : List ℕ) (start end : ByteShelf Packed)
     (lent : start.bytes.now ≡ before) (empty : start.count ≡ 0)
     (stands : (start.bytes.ghost_name ≡ end.bytes.ghost_name) × (packed_past end.bytes.now ≡ packed_past start.bytes.now))
-    (back : start.bytes.name ≡ end.bytes.ghost_name → after ≡ end.bytes.now) where
+    (back : start.bytes.ghost_name ≡ end.bytes.ghost_name → after ≡ end.bytes.now) where
   is_after : after ≡ end.bytes.now
   is_after = back stands.0
 
