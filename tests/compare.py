@@ -7,7 +7,7 @@ random walks over the passes, random bits, and texts that are no streams. The
 program reads each on its standard input, and what it prints must equal what
 reference.program says, byte for byte.
 
-    python3 tests/compare.py                      all cores, target/bin/preview
+    python3 tests/compare.py                      all cores, crates/preview/out/preview
     python3 tests/compare.py --program PATH --seed 7 --inputs 50000
     python3 tests/compare.py --show 1234 >text    write one input out and stop
 """
@@ -315,7 +315,7 @@ def show(number, text, wanted, got, remark):
 
 def main():
     options = argparse.ArgumentParser(description='Compare the previewing program with reference.py.')
-    options.add_argument('--program', default='target/bin/preview', help='path (default %(default)s)')
+    options.add_argument('--program', default='crates/preview/out/preview', help='path (default %(default)s)')
     options.add_argument('--seed', type=int, default=SEED, help='default %(default)s')
     options.add_argument('--inputs', type=int, default=INPUTS, help='at least so many (default %(default)s)')
     options.add_argument('--jobs', type=int, default=os.cpu_count(), help='processes (default: all cores)')

@@ -3,7 +3,7 @@ ghost use Rattle.packing.specs.Faults.{text_refusal};
 ghost use Rattle.packing.specs.declared.fault.PackFault.TheVariants.{Text, Shelf};
 
 use bits::shelf::Full;
-use refusal::{Fault, Layer, Refusal};
+use refusal::{Fault, Refusal};
 
 // Why a text is not a stream in digits.
 #[derive(Clone, Copy, PartialEq, Eq, Debug)]
@@ -19,16 +19,8 @@ impl Fault for TextFault {
 
     fn refusal(&self) -> Refusal {
         match self {
-            TextFault::TooLong => Refusal {
-                number: 21,
-                layer: Layer::Text,
-                place: 0,
-            },
-            TextFault::NoDigit => Refusal {
-                number: 21,
-                layer: Layer::Text,
-                place: 0,
-            },
+            TextFault::TooLong => Refusal::new(21, 0),
+            TextFault::NoDigit => Refusal::new(21, 0),
         }
     }
 }

@@ -16,3 +16,4 @@ pub mod Lengths
 pub mod Cuts
 pub mod Nearness
 pub mod Previews
+pub mod Spellings

@@ -1,7 +1,6 @@
 pub mod Faults
 pub mod Numbers
 pub mod Passes
-pub mod Spellings
 pub mod Streams
 pub mod Reading
 pub mod Laws
