@@ -1,5 +1,5 @@
 -- What a source tells of its first n bits is what it tells of all of them, as long as the index is below n.
-use Rattle.std.proofs.Common.{◌≡◌, ℕ, ◌<◌, ◌≤◌, min, Bool, false, List, length, get_or, take, sym, ◌∙◌, arith}
+use Rattle.std.proofs.Common.{ℕ, ◌<◌, ◌≤◌, Bool, false, List, length, take, sym, ◌∙◌, arith}
 use Rattle.bits.specs.Bits.{Told}
 use Rattle.bits.specs.declared.source.Answer.{Answer}
 use Rattle.bits.specs.declared.source.Answer.TheVariants.{Bit, Ended}

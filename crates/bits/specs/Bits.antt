@@ -1,5 +1,5 @@
 -- What the calls on sources and shelves do, over the list of bits that each stands for. Each relation has a case for each answer.
-use Rattle.std.specs.Prelude.{◌≡◌, ℕ, ◌-◌, ◌<◌, ◌≤◌, Bool, true, false, List, [], ◌∷◌, ◌++◌, length, take, Ok, Err, Result, slice_index_or}
+use Rattle.std.specs.Prelude.{◌≡◌, ℕ, ◌-◌, ◌<◌, ◌≤◌, Bool, false, List, [], ◌∷◌, ◌++◌, length, take, Ok, Err, Result, slice_index_or}
 use Rattle.bits.specs.declared.source.Answer.{Answer}
 use Rattle.bits.specs.declared.source.Answer.TheVariants.{Bit, Ended}
 

@@ -1,5 +1,5 @@
 -- Cells whose heir flags are written: what the flags then are, and that all else stands.
-use Rattle.std.proofs.Common.{◌≡◌, ℕ, zero, suc, ◌+◌, ◌<◌, ◌≤◌, Bool, true, false, ◌≢◌, List, [], ◌∷◌, map, length, get_or, take, set, sym, refl, ap, ◌∙◌, inl, inr, arith}
+use Rattle.std.proofs.Common.{◌≡◌, ℕ, zero, suc, ◌+◌, ◌<◌, ◌≤◌, Bool, false, ◌≢◌, List, [], ◌∷◌, map, length, get_or, take, set, sym, refl, ap, ◌∙◌, inl, inr, arith}
 use Rattle.decoder.specs.Machines.{clear, plain, mark_of, marks_of}
 use Rattle.decoder.specs.declared.cell.Cell.{Cell}
 use Rattle.std.proofs.lemmas.List.{length-take, get_or-take, get_or-map, get_or-set_same, get_or-set_other, take-map}

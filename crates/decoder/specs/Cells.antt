@@ -1,5 +1,5 @@
 -- What the decoder's cells tell.
-use Rattle.std.specs.Prelude.{◌≡◌, ℕ, ◌+◌, ◌/◌, ◌^◌, min, Bool, true, false, cond, List, map, length, take, drop, ℤ, pos, Ok, Err, Result, ◌==◌}
+use Rattle.std.specs.Prelude.{◌≡◌, ℕ, ◌+◌, ◌/◌, ◌^◌, min, cond, List, map, take, drop, ℤ, pos, Ok, Err, Result, ◌==◌}
 use Rattle.decoder.specs.declared.cell.Cell.{Cell}
 use Rattle.decoder.specs.declared.decode.Decoded.{Decoded}
 use Rattle.stream.specs.Numbers.{signed, middle}

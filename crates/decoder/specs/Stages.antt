@@ -1,8 +1,8 @@
 -- The stages of reading, and what is still to come at each: the outcome of reading as a function of the bits that are left.
-use Rattle.std.specs.Prelude.{ℕ, zero, suc, ◌+◌, ◌-◌, ◌^◌, Bool, true, false, cond, ◌&&◌, List, [], ◌∷◌, ◌++◌, length}
+use Rattle.std.specs.Prelude.{ℕ, zero, suc, ◌-◌, ◌^◌, Bool, true, false, List, [], ◌∷◌, ◌++◌, length}
 use Rattle.stream.specs.Numbers.{thresholds}
 use Rattle.stream.specs.Passes.{Mark, Finding, findings}
-use Rattle.stream.specs.Reading.{Dominant, going, ended, leaf_root, next_place, Subordinate, refine_all, Pass, over, cut, faulty, after_dominant, after_subordinate, Outcome, refused, heard, go_on, read_passes}
+use Rattle.stream.specs.Reading.{Dominant, going, ended, leaf_root, next_place, Subordinate, refine_all, after_dominant, after_subordinate, Outcome, heard, go_on, read_passes}
 
 -- A stage of reading at the threshold 2 ^ j. `whole` says that no bit was taken at this threshold, which is not the first one.
 pub data Stage : Type 0 where

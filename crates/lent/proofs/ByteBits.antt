@@ -1,8 +1,8 @@
 -- The bits of a byte: masks and shifts against quotients and remainders, by trial of all bytes and weights.
 use lib.Bits.{bit_and, bit_or}
-use Rattle.std.proofs.Common.{◌≡◌, ℕ, ◌+◌, ◌-◌, ◌*◌, ◌/◌, ◌%◌, ◌^◌, ◌<◌, ◌≤◌, Bool, true, false, cond, not, T, eqb, refl, arith, eqb→eq, ne_eqb}
+use Rattle.std.proofs.Common.{◌≡◌, ℕ, ◌-◌, ◌*◌, ◌/◌, ◌%◌, ◌^◌, ◌<◌, ◌≤◌, Bool, true, false, cond, not, T, eqb, refl, arith, eqb→eq, ne_eqb}
 use Rattle.lent.specs.Layouts.{bit_of, byte_with_bit}
-use Rattle.lent.proofs.Trials.{both, every, below}
+use Rattle.lent.proofs.Trials.{every, below}
 
 -- a test passes at every byte and weight
 at_all : (f : ℕ → ℕ → Bool) → T (every 256 (λ x. every 8 (f x))) → (x w : ℕ) → x < 256 → w ≤ 7 → T (f x w)

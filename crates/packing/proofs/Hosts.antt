@@ -1,5 +1,5 @@
 -- What the host learns of its bytes after a shelf over them was packed.
-use Rattle.std.proofs.Common.{◌≡◌, ℕ, ◌-◌, ◌<◌, ◌≤◌, List, [], ◌∷◌, ◌++◌, length, IfErr, Ok, Err, Result, sym, refl, ap, ◌∙◌, subst, append-nil, arith}
+use Rattle.std.proofs.Common.{◌≡◌, ℕ, List, [], ◌++◌, length, IfErr, Ok, Err, Result, ap, ◌∙◌, arith}
 use Rattle.lent.specs.Layouts.{first, lent_bits, packed_space, packed_at, packed_past}
 use Rattle.lent.specs.declared.byte_shelf.ByteShelf.{ByteShelf}
 use Rattle.lent.specs.declared.layout.Packed.{Packed}

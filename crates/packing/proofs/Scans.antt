@@ -1,9 +1,9 @@
 -- Looking through a text, byte by byte, and the bits of its digits.
-use Rattle.std.proofs.Common.{◌≡◌, ℕ, ◌+◌, ◌-◌, ◌<◌, ◌≤◌, min, Bool, true, false, ◌&&◌, eqb, List, [], ◌∷◌, map, length, get_or, take, drop, sym, refl, ap, ◌∙◌, arith}
+use Rattle.std.proofs.Common.{◌≡◌, ℕ, ◌+◌, ◌<◌, ◌≤◌, min, true, false, ◌&&◌, eqb, List, [], ◌∷◌, map, length, get_or, drop, sym, refl, ap, ◌∙◌, arith}
 use Rattle.std.proofs.lemmas.List.FromFn.{fill_by_all}
 use Rattle.std.proofs.lemmas.List.{at_drop_more, at_drop_all, get_or-map, length-map}
 use Rattle.lent.specs.Layouts.{first, lent_bits, digit_space, digit_at}
-use Rattle.packing.specs.Texts.{is_digit_byte, only_digits, digits_in, bits_of}
+use Rattle.packing.specs.Texts.{is_digit_byte, only_digits, digits_in}
 
 -- one digit more is passed
 pub all_more : (bs : List ℕ) (i : ℕ) → i < length bs → is_digit_byte (get_or bs i 0) ≡ true → only_digits (drop i bs) ≡ only_digits (drop (i + 1) bs)

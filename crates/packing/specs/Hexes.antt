@@ -1,5 +1,5 @@
 -- Bytes in hexadecimal.
-use Rattle.std.specs.Prelude.{ℕ, ◌+◌, ◌-◌, ◌/◌, ◌%◌, Bool, cond, List, [], ◌∷◌, nat_lt}
+use Rattle.std.specs.Prelude.{ℕ, ◌+◌, ◌-◌, ◌/◌, ◌%◌, cond, List, [], ◌∷◌, nat_lt}
 use Rattle.std.specs.List.{flat_map}
 
 -- The character of a digit: '0' (48) to '9', then 'A' (65) to 'F'.

@@ -2,7 +2,6 @@
 use Rattle.std.specs.Prelude.{◌≡◌, ℕ, ◌-◌, ◌<◌, ◌≤◌, Bool, List, ◌++◌, length, Ok, Err, Result}
 use Rattle.lent.specs.Layouts.{first, packed_space, packed_at, packed_past}
 use Rattle.packing.specs.Texts.{IsText, TextRefused, bits_of}
-use Rattle.packing.specs.declared.fault.TextFault.{TextFault}
 use Rattle.packing.specs.declared.fault.PackFault.{PackFault}
 use Rattle.packing.specs.declared.fault.PackFault.TheVariants.{Text, Shelf}
 

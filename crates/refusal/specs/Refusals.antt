@@ -1,5 +1,5 @@
 -- Numbered refusals: which layer a number belongs to, and the checks of a call in their order.
-use Rattle.std.specs.Prelude.{◌≡◌, ℕ, Bool, true, false, cond, ◌&&◌, List, [], ◌∷◌, Some, None, Option, ◌==◌, nat_le}
+use Rattle.std.specs.Prelude.{ℕ, Bool, true, false, cond, ◌&&◌, List, [], ◌∷◌, Some, None, Option, ◌==◌, nat_le}
 use Rattle.refusal.specs.declared.Layer.{Layer}
 use Rattle.refusal.specs.declared.Layer.TheVariants.{Slot, Stream, Shelf, Bank, Text}
 use Rattle.refusal.specs.declared.Refusal.{Refusal}

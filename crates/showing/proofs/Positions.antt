@@ -1,5 +1,5 @@
 -- The places of a table's rows and columns lie in the table.
-use Rattle.std.proofs.Common.{◌≡◌, ℕ, zero, suc, ◌+◌, ◌*◌, ◌/◌, ◌^◌, ◌<◌, ◌≤◌, refl, ap, ◌∙◌, arith}
+use Rattle.std.proofs.Common.{◌≡◌, ℕ, zero, suc, ◌/◌, ◌^◌, ◌<◌, ◌≤◌, refl, arith}
 use native.Mathlib.Nat.{pow-succ', pow-le-pow_right}
 use Rattle.scan.proofs.Digits.{spread_lt}
 use Rattle.scan.specs.Places.{spread, place_at}

@@ -1,5 +1,5 @@
 -- What is decoded, as the outcome of a preview or a load.
-use Rattle.std.proofs.Common.{◌≡◌, ℕ, Bool, true, false, List, length, Ok, Err, Result, sym, refl, ap, ◌∙◌}
+use Rattle.std.proofs.Common.{◌≡◌, ℕ, Bool, true, false, List, length, Ok, Err, sym, refl, ap}
 use Rattle.decoder.specs.Cells.{cell_numbers, Decodes}
 use Rattle.decoder.specs.declared.cell.Cell.{Cell}
 use Rattle.decoder.specs.declared.decode.Decoded.{Decoded}

@@ -1,5 +1,5 @@
 -- What is heard of cells is near the numbers: the middle of a cell lies at most half the width from what the cell holds.
-use Rattle.std.proofs.Common.{◌≡◌, ℕ, suc, ◌-◌, ◌/◌, ◌^◌, ◌<◌, ◌≤◌, true, false, eqb, List, [], ◌∷◌, get_or, ℤ, pos, nat_abs, sym, refl, ap, ◌∙◌, inl, inr, mul-le-mul_left, le-div_iff_mul-le, arith}
+use Rattle.std.proofs.Common.{◌≡◌, ℕ, suc, ◌/◌, ◌^◌, ◌<◌, ◌≤◌, true, false, eqb, List, [], ◌∷◌, get_or, ℤ, pos, nat_abs, sym, refl, ap, ◌∙◌, inl, inr, mul-le-mul_left, le-div_iff_mul-le, arith}
 use native.Mathlib.Nat.{pow-le-pow_right, pow-succ'}
 use Rattle.std.proofs.lemmas.Nat.{pow_pos}
 use Rattle.std.proofs.lemmas.Bool.{cases_Bool, cond-true, cond-false, eqb-true, or_parts, both_ways}

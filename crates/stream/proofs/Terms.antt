@@ -1,7 +1,7 @@
 -- Terms that the proofs share: the cell of a place in closed form, which places are found, and what reading makes of a dominant pass.
 use Rattle.std.proofs.Common.{◌≡◌, ℕ, zero, suc, ◌^◌, ◌<◌, Bool, true, false, cond, not, ◌&&◌, leb, List, [], ◌∷◌, ◌++◌, length, get_or, take, ℤ, pos}
 use Rattle.stream.specs.Numbers.{negative, magnitude_at, low_end}
-use Rattle.stream.specs.Passes.{Label, significant, zerotree_root, isolated_zero, Mark, skipped, labelled, Finding, has_children, is_found, is_fresh, due}
+use Rattle.stream.specs.Passes.{significant, zerotree_root, isolated_zero, Mark, skipped, labelled, Finding, has_children, is_found, is_fresh, due}
 
 -- The finding of a place in the cell of width 2 ^ w that holds its magnitude.
 unfoldable pub cell_at : List ℤ → ℕ → ℕ → Finding

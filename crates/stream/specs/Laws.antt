@@ -1,5 +1,5 @@
 -- The laws of streams, for every table, floor, placement and list of bits. Each is named by the contract of a public function.
-use Rattle.std.specs.Prelude.{◌≡◌, ℕ, zero, suc, ◌+◌, ◌-◌, ◌*◌, ◌^◌, ◌<◌, ◌≤◌, max, Bool, true, false, ◌&&◌, ◌⊎◌, ◌↔◌, List, [], ◌∷◌, ◌++◌, map, length, take, ℤ, pos, ◌-ℤ◌, is_ok, Ok, Err, Result, slice_index_or, unsigned_abs}
+use Rattle.std.specs.Prelude.{◌≡◌, ℕ, suc, ◌+◌, ◌-◌, ◌*◌, ◌^◌, ◌<◌, ◌≤◌, max, Bool, true, ◌⊎◌, ◌↔◌, List, [], ◌∷◌, ◌++◌, map, length, take, ℤ, pos, ◌-ℤ◌, is_ok, Ok, slice_index_or, unsigned_abs}
 use Rattle.scan.specs.Tree.{HasChildren, Descendant, descends}
 use Rattle.stream.specs.Numbers.{Table, Placement, InCell, Alike, middle, negative, largest, level, quantized}
 use Rattle.stream.specs.Passes.{has_children}

@@ -1,5 +1,5 @@
 -- The passes of the coder at one threshold T = 2 ^ j: which label stands at which place, which places are found, and how cells are halved.
-use Rattle.std.specs.Prelude.{ℕ, zero, suc, ◌+◌, ◌*◌, ◌/◌, ◌^◌, Bool, true, false, cond, not, ◌&&◌, ◌||◌, List, [], ◌∷◌, ◌++◌, map, length, ℤ, pos, ◌==◌, nat_le, nat_lt, slice_index_or}
+use Rattle.std.specs.Prelude.{ℕ, zero, suc, ◌+◌, ◌*◌, ◌/◌, ◌^◌, Bool, true, false, cond, not, ◌&&◌, ◌||◌, List, [], ◌∷◌, ◌++◌, length, ℤ, pos, ◌==◌, nat_le, nat_lt, slice_index_or}
 use Rattle.scan.specs.Tree.{descends}
 use Rattle.stream.specs.Numbers.{negative, magnitude_at}
 

@@ -1,5 +1,5 @@
 -- Reading any list of bits: what is heard of its whole symbols, or which fault comes instead.
-use Rattle.std.specs.Prelude.{ℕ, zero, suc, ◌+◌, ◌-◌, ◌*◌, ◌^◌, Bool, true, false, cond, not, ◌&&◌, ◌||◌, List, [], ◌∷◌, ◌++◌, map, length, take, drop, ℤ, pos, Ok, Err, Result, ◌==◌, nat_lt, slice_index_or}
+use Rattle.std.specs.Prelude.{ℕ, zero, suc, ◌+◌, ◌-◌, ◌^◌, Bool, true, false, cond, not, ◌&&◌, List, [], ◌∷◌, ◌++◌, map, length, take, drop, ℤ, pos, Ok, Err, Result, ◌==◌, nat_lt, slice_index_or}
 use Rattle.scan.specs.Tree.{descends}
 use Rattle.std.specs.List.{range_with_len}
 use Rattle.stream.specs.declared.fault.StreamFault.{StreamFault}

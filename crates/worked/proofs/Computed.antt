@@ -1,5 +1,5 @@
 -- The worked examples, computed.
-use Rattle.std.proofs.Common.{◌≡◌, ℕ, List, [], ◌∷◌, length, take, ℤ, pos, Ok, Err, codes, sym, refl, ap, ◌∙◌, subst}
+use Rattle.std.proofs.Common.{◌≡◌, List, [], ◌∷◌, length, take, ℤ, pos, Ok, codes, sym, refl, ap, ◌∙◌, subst}
 use Rattle.lent.specs.Layouts.{first, packed_at}
 use Rattle.scan.specs.Places.{gathered, row_of, column_of}
 use Rattle.scan.specs.Tree.{among_quarters, descends}

@@ -1,5 +1,5 @@
 -- Worked examples. Tables are written row by row, streams in digits; spaces in a stream only help the eye.
-use Rattle.std.specs.Prelude.{◌≡◌, ℕ, ◌+◌, ◌*◌, ◌^◌, Bool, true, false, cond, List, [], ◌∷◌, ◌++◌, map, length, take, ℤ, pos, neg_ℤ, Ok, Err, codes, ◌==◌, slice_index_or}
+use Rattle.std.specs.Prelude.{◌≡◌, ℕ, ◌+◌, ◌*◌, ◌^◌, Bool, true, false, cond, List, [], ◌∷◌, map, length, take, ℤ, pos, neg_ℤ, Ok, Err, codes, ◌==◌, slice_index_or}
 use Rattle.lent.specs.Layouts.{first, packed_at}
 use Rattle.refusal.specs.declared.Layer.TheVariants.{Stream}
 use Rattle.scan.specs.Places.{row_of, column_of}

@@ -1,5 +1,5 @@
 -- Every turn has put one more bit of the source, and the shelf keeps its room and its frame.
-use Rattle.std.proofs.Common.{◌≡◌, ◌+◌, ◌≤◌, ◌++◌, length, take}
+use Rattle.std.proofs.Common.{◌≡◌, ◌++◌, take}
 use Rattle.bits.proofs.copy.copy.Given as goal
 
 abbrev pub invariant-loop-index : goal.invariant-loop-index

@@ -1,4 +1,4 @@
-use Rattle.std.proofs.Common.{sym, arith}
+use Rattle.std.proofs.Common.{arith}
 use Rattle.lent.proofs.Firsts.{told_lent, ended_lent}
 use Rattle.lent.proofs.layout.ask.Goals as goal
 

@@ -1,4 +1,3 @@
-use Rattle.std.proofs.Common.{arith}
 use Rattle.lent.proofs.ByteBits.{and_one}
 use Rattle.lent.proofs.layout.bit_of.Goals as goal
 

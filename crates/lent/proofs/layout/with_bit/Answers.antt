@@ -1,4 +1,3 @@
-use Rattle.std.proofs.Common.{arith}
 use Rattle.lent.proofs.ByteBits.{or_mask, and_mask}
 use Rattle.lent.proofs.layout.with_bit.Goals as goal
 

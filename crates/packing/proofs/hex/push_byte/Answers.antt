@@ -1,4 +1,4 @@
-use Rattle.std.proofs.Common.{arith, rules}
+use Rattle.std.proofs.Common.{rules}
 use Rattle.packing.proofs.Written.{byte_put}
 use Rattle.packing.proofs.hex.push_byte.Goals as goal
 

@@ -1,4 +1,4 @@
-use Rattle.std.proofs.Common.{sym, ◌∙◌, arith, rules}
+use Rattle.std.proofs.Common.{rules}
 use Rattle.packing.proofs.Scans.{all_more, all_not, all_end}
 use Rattle.packing.proofs.text.all_digits.Goals as goal
 

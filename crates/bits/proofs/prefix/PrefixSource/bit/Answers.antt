@@ -1,4 +1,4 @@
-use Rattle.std.proofs.Common.{arith, rules}
+use Rattle.std.proofs.Common.{arith}
 use Rattle.bits.proofs.Prefixes.{told_prefix, ended_prefix}
 use Rattle.bits.proofs.prefix.PrefixSource.bit.Goals as goal
 

@@ -1,4 +1,4 @@
-use Rattle.std.proofs.Common.{◌≡◌, ◌∷◌, length, refl, ap, arith, rules}
+use Rattle.std.proofs.Common.{◌≡◌, ◌∷◌, length, ap, arith, rules}
 use Rattle.lent.proofs.Firsts.{length_lent, put_lent}
 use Rattle.lent.proofs.byte_shelf.ByteShelfShelf.put.Goals as goal
 
