@@ -193,7 +193,7 @@ impl Machine {
 
     // The cell of the next found place is halved.
     fn refine(&mut self, upper: bool, cells: &mut [Cell], found: &[u16])
-        requires index_in_bounds { (self.old.index < length found.now) × (slice_index found.now self.old.index < length cells.old) }
+        requires in_bounds { (self.old.index < length found.now) × (slice_index found.now self.old.index < length cells.old) }
         requires fits { (get_or cells.old (slice_index found.now self.old.index) clear).low + (get_or cells.old (slice_index found.now self.old.index) clear).width ≤ 2 ^ 15 }
         ensures machine { self.new ≡ refined_one self.old }
         ensures cell { cells.new ≡ slice_set cells.old (slice_index found.now self.old.index) (halved_cell upper (slice_index_or cells.old (slice_index found.now self.old.index) clear)) }
@@ -213,7 +213,7 @@ impl Machine {
         taken: usize,
         cells: &mut [Cell],
     ) -> Result<(), StreamFault>
-        requires exponent_in_bounds { (4 ^ side.exponent ≤ length cells.old) × (1 ≤ self.old.exponent) }
+        requires suffices { (4 ^ side.exponent ≤ length cells.old) × (1 ≤ self.old.exponent) }
         requires waits { self.old.waiting ≡ Subordinate }
         ensures comes { (found : List ℕ) → Refining side.exponent self.old cells.old found → self.old.whole ≡ false → Comes side.exponent taken (stage_by Subordinate self.old cells.old found) self.new cells.new found result }
         ensures stand { StandPast (4 ^ side.exponent) cells.old cells.new }

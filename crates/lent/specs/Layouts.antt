@@ -11,8 +11,8 @@ unfoldable pub lent_bits : (ℕ → ℕ) → (List ℕ → ℕ → Bool) → Lis
 lent_bits space at bytes count = first (at bytes) (min count (space (length bytes)))
 
 -- The bit of a byte that is worth 2 ^ weight.
-abbrev pub bit_of : ℕ → ℕ → Bool
-bit_of byte weight = byte / 2 ^ weight % 2 == 1
+abbrev pub bit_in : ℕ → ℕ → Bool
+bit_in byte weight = byte / 2 ^ weight % 2 == 1
 
 -- The byte with that bit set to b: the higher bits, b, the lower bits.
 abbrev pub byte_with_bit : ℕ → ℕ → Bool → ℕ
@@ -23,7 +23,7 @@ abbrev pub packed_space : ℕ → ℕ
 packed_space bytes = min (8 * bytes) 131072
 
 abbrev pub packed_at : List ℕ → ℕ → Bool
-packed_at bytes i = bit_of (slice_index bytes (i / 8)) (7 - i % 8)
+packed_at bytes i = bit_in (slice_index bytes (i / 8)) (7 - i % 8)
 
 abbrev pub packed_past : List ℕ → List ℕ
 packed_past bytes = drop 16384 bytes

@@ -1,6 +1,6 @@
 ghost use Rattle.std.specs.Prelude.{◌≡◌, ℕ, ◌≤◌, min, Bool, List, length};
 ghost use Rattle.bits.specs.Bits.{Told};
-ghost use Rattle.lent.specs.Layouts.{lent_bits, packed_space, packed_at, packed_past, digit_space, digit_at, digit_of_bit, digit_past, Written, byte_with_bit, bit_of};
+ghost use Rattle.lent.specs.Layouts.{lent_bits, packed_space, packed_at, packed_past, digit_space, digit_at, digit_of_bit, digit_past, Written, byte_with_bit, bit_in};
 ghost use Rattle.std.proofs.Common.{rules};
 
 use bits::source::Answer;
@@ -53,7 +53,7 @@ pub struct Packed;
 // The bit of a byte that is worth 2 ^ weight.
 fn bit_of(byte: u8, weight: usize) -> bool
     requires { weight ≤ 7 }
-    ensures { result ≡ bit_of byte weight }
+    ensures { result ≡ bit_in byte weight }
 {
     byte >> weight & 1 == 1
 }

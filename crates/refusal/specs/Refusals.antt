@@ -4,7 +4,7 @@ use Rattle.refusal.specs.declared.Layer.{Layer}
 use Rattle.refusal.specs.declared.Layer.TheVariants.{Slot, Stream, Shelf, Bank, Text}
 use Rattle.refusal.specs.declared.Refusal.{Refusal}
 
--- The layer that the rule of a number belongs to: slot for 1 to 5, stream for 8 to 14, shelf for 18 and 19, text for 21, bank for the rest.
+-- The layer that the rule of a number belongs to: slot up to 5, stream for 8 to 14, shelf for 18 and 19, text for 21, bank for every other.
 abbrev pub layer_of : (number : ℕ) → Layer
 layer_of number =
     cond (nat_le number 5) Slot
@@ -26,7 +26,7 @@ refused_if true refusal = Some refusal
 refused_if false refusal = None
 
 -- Checks run in their order, and the first one that refuses is answered.
-abbrev pub first_of : List Check → Check
-first_of [] = None
-first_of (Some refusal ∷ checks) = Some refusal
-first_of (None ∷ checks) = first_of checks
+abbrev pub first_refusal : List Check → Check
+first_refusal [] = None
+first_refusal (Some refusal ∷ checks) = Some refusal
+first_refusal (None ∷ checks) = first_refusal checks

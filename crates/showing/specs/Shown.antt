@@ -18,12 +18,12 @@ shown_row [] = 10 ∷ []
 shown_row (n ∷ ns) = shown_number n ++ flat_map shown_next ns ++ 10 ∷ []
 
 -- The number in a row and a column of a table whose numbers are given in scan order.
-abbrev pub number_at : List ℤ → ℕ → ℕ → ℤ
-number_at numbers row column = slice_index_or numbers (place_at row column) (pos 0)
+abbrev pub number_in : List ℤ → ℕ → ℕ → ℤ
+number_in numbers row column = slice_index_or numbers (place_at row column) (pos 0)
 
 -- The numbers of a row of a table of 2 ^ k rows.
 abbrev pub row_numbers : ℕ → List ℤ → ℕ → List ℤ
-row_numbers k numbers row = map (number_at numbers row) (range_with_len 0 (2 ^ k))
+row_numbers k numbers row = map (number_in numbers row) (range_with_len 0 (2 ^ k))
 
 -- The table's rows, one after the other.
 unfoldable pub shown_table : ℕ → List ℤ → List ℕ

@@ -1,5 +1,5 @@
 ghost use Rattle.std.specs.Prelude.{◌≡◌, ◌^◌, ◌<◌, ◌≤◌, ◌++◌, length, string_bytes, MatchResult, OnOk};
-ghost use Rattle.showing.specs.Shown.{number_at, shown_number, shown_next, row_numbers, shown_row, shown_table};
+ghost use Rattle.showing.specs.Shown.{number_in, shown_number, shown_next, row_numbers, shown_row, shown_table};
 ghost use Rattle.showing.specs.Refused.{NotShown};
 
 use super::fault::ShowFault;
@@ -10,7 +10,7 @@ use std::fmt;
 // The number in a row and a column.
 fn number_at(side: Side, numbers: &[i32], row: usize, column: usize) -> i32
     requires { (4 ^ side.exponent ≤ length numbers.now) × ((row < 2 ^ side.exponent) × (column < 2 ^ side.exponent)) }
-    ensures { result ≡ number_at numbers.now row column }
+    ensures { result ≡ number_in numbers.now row column }
 {
     let Some(place) = place_at(row, column) else {
         unreachable()

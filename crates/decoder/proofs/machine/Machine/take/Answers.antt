@@ -114,7 +114,7 @@ pub refine-requires : goal.refine-requires
 refine-requires c =
     let sub = by_sound c.args.side.exponent c.args.self.now c.args.cells.now c.args.found.now Subordinate c.in-Subordinate-default.is-0 c.requires.sound in
     let fits = refine_fits c.args.side.exponent c.args.self.now c.args.cells.now c.args.found.now sub.0 sub.1 in
-    record { index_in_bounds = (fits.0, omega (arith, fits.1, sub.0.memory)); fits = fits.2 }
+    record { in_bounds = (fits.0, omega (arith, fits.1, sub.0.memory)); fits = fits.2 }
 
 pub returns-in-Subordinate-default : goal.returns-in-Subordinate-default
 returns-in-Subordinate-default c =
