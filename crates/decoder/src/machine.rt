@@ -213,7 +213,7 @@ impl Machine {
         taken: usize,
         cells: &mut [Cell],
     ) -> Result<(), StreamFault>
-        requires suffices { (4 ^ side.exponent ≤ length cells.old) × (1 ≤ self.old.exponent) }
+        requires in_bounds { (4 ^ side.exponent ≤ length cells.old) × (1 ≤ self.old.exponent) }
         requires waits { self.old.waiting ≡ Subordinate }
         ensures comes { (found : List ℕ) → Refining side.exponent self.old cells.old found → self.old.whole ≡ false → Comes side.exponent taken (stage_by Subordinate self.old cells.old found) self.new cells.new found result }
         ensures stand { StandPast (4 ^ side.exponent) cells.old cells.new }

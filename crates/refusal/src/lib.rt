@@ -3,6 +3,7 @@
 // Every layer has an enum of its own for what it refuses, and one definition in its specs/ that gives each case its number, its
 // layer and its place. An upper layer's fault holds the lower layer's entire, so nothing is lost on the way up through `?`. This
 // crate has what they share: the layers, the record of number, layer and place, and the trait by which any fault tells its own.
+// Promised: a refusal made from its number and place has the layer that the number belongs to.
 #![tactic(auto)]
 
 ghost use Rattle.std.specs.Prelude.{◌≡◌};
