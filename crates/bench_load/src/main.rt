@@ -8,10 +8,11 @@ use input::read_text;
 use lent::byte_source::ByteSource;
 use lent::layout::Packed;
 use slots::blank::Blank;
+use slots::fault::SlotFault;
 use std::env;
 use std::time::Instant;
 
-// Loads the stream so many times; false at the first load that is refused.
+// Loads the stream so many times, up to the first load that is refused.
 fn load_all(
     exponent: u32,
     stream: &[u8],
@@ -20,20 +21,13 @@ fn load_all(
     table: &mut [i16],
     cells: &mut [Cell],
     found: &mut [u16],
-) -> bool {
+) -> Result<(), SlotFault> {
     let source = ByteSource::new(Packed, stream, count);
     for _ in 0..repeats {
-        let Ok(blank) = Blank::new(exponent) else {
-            return false;
-        };
-        if blank
-            .load::<_, Surface>(&source, table, cells, found)
-            .is_err()
-        {
-            return false;
-        }
+        let blank = Blank::new(exponent)?;
+        blank.load::<_, Surface>(&source, table, cells, found)?;
     }
-    true
+    Ok(())
 }
 
 // The next argument as a number; 0 where there is none.
@@ -65,7 +59,7 @@ fn main(rt: HostRuntime) -> anyhow::Result<()> {
         &mut found,
     );
     let time = start.elapsed(&rt)?.as_nanos() / u128::from(repeats);
-    if loaded {
+    if loaded.is_ok() {
         println!(rt; "{count} bits loaded {repeats} times")?;
         eprintln!(rt; "{time}")?;
     } else {

@@ -1,12 +1,10 @@
 -- What the calls on sources and shelves do, over the list of bits that each stands for. Each relation has a case for each answer.
-use Rattle.std.specs.Prelude.{◌≡◌, ℕ, ◌-◌, ◌<◌, ◌≤◌, Bool, false, List, [], ◌∷◌, ◌++◌, length, take, Ok, Err, Result, slice_index_or}
-use Rattle.bits.specs.declared.source.Answer.{Answer}
-use Rattle.bits.specs.declared.source.Answer.TheVariants.{Bit, Ended}
+use Rattle.std.specs.Prelude.{◌≡◌, ℕ, ◌-◌, ◌<◌, ◌≤◌, Bool, false, List, [], ◌∷◌, ◌++◌, length, take, Ok, Err, Result, Some, None, Option, slice_index_or}
 
 -- The bit at index i is told, or that there is none.
-abbrev pub Told : List Bool → ℕ → Answer → Type 0
-Told bits i (Bit b) = (i < length bits) × (b ≡ slice_index_or bits i false)
-Told bits i Ended = length bits ≤ i
+abbrev pub Told : List Bool → ℕ → Option Bool → Type 0
+Told bits i (Some b) = (i < length bits) × (b ≡ slice_index_or bits i false)
+Told bits i None = length bits ≤ i
 
 -- A bit is put last; or it is refused, exactly if the count has reached the room.
 abbrev pub PutTo : {E : Type 0} → List Bool → ℕ → Bool → List Bool → Result (Unit {0}) E → Type 0

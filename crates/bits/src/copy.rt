@@ -2,7 +2,7 @@ ghost use Rattle.std.specs.Prelude.{◌≡◌, OnErr};
 ghost use Rattle.bits.specs.Bits.{Appended};
 
 use super::shelf::{Full, Shelf};
-use super::source::{Answer, Source};
+use super::source::Source;
 
 // Puts all bits of a source behind those of a shelf. Refused as full, with the shelf unaltered, where they do not all fit.
 pub fn copy<S: Source, H: Shelf>(source: &S, shelf: &mut H) -> Result<(), Full>
@@ -11,14 +11,11 @@ pub fn copy<S: Source, H: Shelf>(source: &S, shelf: &mut H) -> Result<(), Full>
     ensures stands { H.Shelf.frame shelf.new ≡ H.Shelf.frame shelf.old }
     ensures unaltered { OnErr result (shelf.new ≡ shelf.old) }
 {
-    let total = source.count();
-    if total > H::room(shelf).saturating_sub(H::count(shelf)) {
+    if source.count() > H::room(shelf).saturating_sub(H::count(shelf)) {
         return Err(Full);
     }
-    for index in 0..total {
-        if let Answer::Bit(bit) = source.bit(index) {
-            shelf.put(bit)?;
-        }
+    for bit in source.iter() {
+        shelf.put(bit)?;
     }
     Ok(())
 }

@@ -10,6 +10,7 @@
 #![tactic(auto)]
 
 pub mod copy;
+pub mod iter;
 pub mod limit;
 pub mod prefix;
 pub mod shelf;

@@ -1,7 +1,7 @@
 ghost use Rattle.std.specs.Prelude.{◌≡◌, min, ◌∷◌};
 
 use super::shelf::{Beyond, Full, Shelf};
-use super::source::{Answer, Source};
+use super::source::Source;
 
 // Another shelf with its room limited: the room is the smaller of the limit and the room below. The bits are those below, also
 // where there are already more of them than the limit; a put is then refused until the shelf has been cut back.
@@ -26,7 +26,7 @@ impl<H: Source> Source for Limit<H> {
         self.shelf.count()
     }
 
-    fn bit(&self, index: usize) -> Answer {
+    fn bit(&self, index: usize) -> Option<bool> {
         self.shelf.bit(index)
     }
 }

@@ -1,6 +1,6 @@
 ghost use Rattle.std.specs.Prelude.{◌≡◌, take};
 
-use super::source::{Answer, Source};
+use super::source::Source;
 
 // The first bits of another source: at most `count` of them, the whole source where that has fewer.
 #[derive(Clone, Copy, Drop)]
@@ -24,9 +24,9 @@ impl<S: Source> Source for Prefix<S> {
         self.source.count().min(self.count)
     }
 
-    fn bit(&self, index: usize) -> Answer {
+    fn bit(&self, index: usize) -> Option<bool> {
         if index >= self.count {
-            return Answer::Ended;
+            return None;
         }
         self.source.bit(index)
     }

@@ -1,7 +1,7 @@
 ghost use Rattle.std.specs.Prelude.{◌≡◌, ℕ, ◌≤◌, Bool, List, ◌∷◌, length, OnErr};
 ghost use Rattle.bits.specs.Bits.{PutTo, CutTo};
 
-use super::source::{Answer, Source};
+use super::source::Source;
 
 // The shelf has no room for one more bit.
 #[derive(Clone, Copy, PartialEq, Eq, Debug)]
@@ -48,7 +48,7 @@ impl<H: Source> Source for &mut H {
         (**self).count()
     }
 
-    fn bit(&self, index: usize) -> Answer {
+    fn bit(&self, index: usize) -> Option<bool> {
         (**self).bit(index)
     }
 }

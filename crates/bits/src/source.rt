@@ -1,14 +1,8 @@
-ghost use Rattle.std.specs.Prelude.{◌≡◌, Bool, List, length};
+ghost use Rattle.std.specs.Prelude.{◌≡◌, Bool, List, length, take, drop};
 ghost use Rattle.bits.specs.Bits.{Told};
 
-// What a source says when it is asked for the bit at an index.
-#[derive(Clone, Copy, PartialEq, Eq, Debug)]
-pub enum Answer {
-    // The bit that stands there.
-    Bit(bool),
-    // There is none: the index is past the last bit.
-    Ended,
-}
+use super::iter::Iter;
+use std::ops::Range;
 
 // A list of bits that can be asked for. Questions alter nothing.
 pub trait Source {
@@ -19,9 +13,26 @@ pub trait Source {
     fn count(&self) -> usize
         ensures { result ≡ length (bits self.now) };
 
-    // The bit at an index, counted from 0.
-    fn bit(&self, index: usize) -> Answer
+    // The bit at an index, counted from 0; none past the last bit.
+    fn bit(&self, index: usize) -> Option<bool>
         ensures { Told (bits self.now) index result };
+
+    // The bits from the first on, one after the other.
+    final fn iter(&self) -> Iter<'_, Self>
+        ensures { result ≡ bits self.now }
+    {
+        self.range(0..self.count())
+    }
+
+    // The bits at these indices, as far as there are any.
+    final fn range(&self, indices: Range<usize>) -> Iter<'_, Self>
+        ensures { result ≡ drop indices.start (take indices.end (bits self.now)) }
+    {
+        Iter {
+            source: self,
+            indices,
+        }
+    }
 }
 
 // A source that is borrowed is the same source.
@@ -32,7 +43,7 @@ impl<S: Source> Source for &S {
         (**self).count()
     }
 
-    fn bit(&self, index: usize) -> Answer {
+    fn bit(&self, index: usize) -> Option<bool> {
         (**self).bit(index)
     }
 }

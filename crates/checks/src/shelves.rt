@@ -2,24 +2,11 @@ use bits::copy::copy;
 use bits::limit::Limit;
 use bits::prefix::Prefix;
 use bits::shelf::{Beyond, Full, Shelf};
-use bits::source::{Answer, Source};
+use bits::source::Source;
 use lent::byte_shelf::ByteShelf;
 use lent::byte_source::ByteSource;
-use lent::layout::{Digits, Layout, Packed};
+use lent::layout::{Digits, Packed};
 use std::test::Fail;
-
-// Whether two sources hold the same bits.
-fn same_bits<S: Source, T: Source>(one: &S, other: &T) -> bool {
-    if one.count() != other.count() {
-        return false;
-    }
-    for index in 0..one.count() {
-        if one.bit(index) != other.bit(index) {
-            return false;
-        }
-    }
-    true
-}
 
 #[test]
 fn packed_bits_stand_highest_first(rt: HostRuntime) -> Result<(), Fail> {
@@ -30,11 +17,9 @@ fn packed_bits_stand_highest_first(rt: HostRuntime) -> Result<(), Fail> {
         &mut shelf,
     )?;
     assert_eq!(rt; shelf.count(), 16);
-    assert_eq!(rt; shelf.bit(1), Answer::Bit(true));
-    assert_eq!(rt; shelf.bit(16), Answer::Ended);
-    assert_eq!(rt; bytes[0], 0x4B);
-    assert_eq!(rt; bytes[1], 0x2B);
-    assert_eq!(rt; bytes[2], 0);
+    assert_eq!(rt; shelf.bit(1), Some(true));
+    assert_eq!(rt; shelf.bit(16), None);
+    assert_eq!(rt; bytes, [0x4B, 0x2B, 0]);
     Ok(())
 }
 
@@ -51,9 +36,9 @@ fn adapters_nest(rt: HostRuntime) -> Result<(), Fail> {
     assert_eq!(rt; limit.put(true), Err(Full));
     let front = Prefix::new(Prefix::new(&limit, 8), 6);
     assert_eq!(rt; front.count(), 6);
-    assert_eq!(rt; front.bit(3), Answer::Bit(true));
-    assert_eq!(rt; front.bit(5), Answer::Bit(false));
-    assert_eq!(rt; front.bit(6), Answer::Ended);
+    assert_eq!(rt; front.bit(3), Some(true));
+    assert_eq!(rt; front.bit(5), Some(false));
+    assert_eq!(rt; front.bit(6), None);
     assert_eq!(rt; Prefix::new(&limit, 99).count(), 10);
     Ok(())
 }
@@ -68,7 +53,7 @@ fn a_limit_below_the_count_holds_all_bits(rt: HostRuntime) {
     assert_eq!(rt; limit.count(), 12);
     assert_eq!(rt; limit.cut(4), Ok(()));
     assert_eq!(rt; limit.put(false), Ok(()));
-    assert_eq!(rt; limit.bit(4), Answer::Bit(false));
+    assert_eq!(rt; limit.bit(4), Some(false));
     assert_eq!(rt; limit.put(false), Err(Full));
 }
 
@@ -82,11 +67,11 @@ fn edges_of_put_and_cut(rt: HostRuntime) {
     assert_eq!(rt; shelf.cut(8), Ok(()));
     assert_eq!(rt; shelf.cut(7), Ok(()));
     assert_eq!(rt; shelf.put(true), Ok(()));
-    assert_eq!(rt; shelf.bit(7), Answer::Bit(true));
+    assert_eq!(rt; shelf.bit(7), Some(true));
     assert_eq!(rt; shelf.cut(0), Ok(()));
-    assert_eq!(rt; shelf.bit(0), Answer::Ended);
+    assert_eq!(rt; shelf.bit(0), None);
     assert_eq!(rt; shelf.cut(1), Err(Beyond));
-    assert_eq!(rt; bytes[0], 1);
+    assert_eq!(rt; bytes, [1]);
 }
 
 #[test]
@@ -96,7 +81,7 @@ fn no_bytes_hold_no_bits(rt: HostRuntime) {
     assert_eq!(rt; shelf.room(), 0);
     assert_eq!(rt; shelf.count(), 0);
     assert_eq!(rt; shelf.put(true), Err(Full));
-    assert_eq!(rt; ByteSource::new(Packed, b"", 1).bit(0), Answer::Ended);
+    assert_eq!(rt; ByteSource::new(Packed, b"", 1).bit(0), None);
 }
 
 #[test]
@@ -109,11 +94,11 @@ fn packed_and_digit_shelves_agree(rt: HostRuntime) {
     for index in 0..45usize {
         let bit = index % 3 == 0 || index % 7 == 2;
         assert_eq!(rt; packed.put(bit), digits.put(bit));
-        assert!(rt; same_bits(&packed, &digits));
+        assert!(rt; packed.iter().eq(digits.iter()));
     }
     assert_eq!(rt; packed.cut(17), Ok(()));
     assert_eq!(rt; digits.cut(17), Ok(()));
-    assert!(rt; same_bits(&packed, &digits));
+    assert!(rt; packed.iter().eq(digits.iter()));
     assert_eq!(rt; digit_bytes[0], b'1');
     assert_eq!(rt; digit_bytes[1], b'0');
 }
@@ -122,10 +107,10 @@ fn packed_and_digit_shelves_agree(rt: HostRuntime) {
 fn any_byte_but_one_reads_as_zero(rt: HostRuntime) {
     let source = ByteSource::new(Digits, b"1x0 1", 9);
     assert_eq!(rt; source.count(), 5);
-    assert_eq!(rt; source.bit(0), Answer::Bit(true));
-    assert_eq!(rt; source.bit(1), Answer::Bit(false));
-    assert_eq!(rt; source.bit(3), Answer::Bit(false));
-    assert_eq!(rt; source.bit(4), Answer::Bit(true));
+    assert_eq!(rt; source.bit(0), Some(true));
+    assert_eq!(rt; source.bit(1), Some(false));
+    assert_eq!(rt; source.bit(3), Some(false));
+    assert_eq!(rt; source.bit(4), Some(true));
 }
 
 #[test]

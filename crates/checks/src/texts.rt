@@ -6,23 +6,15 @@ use packing::text::read_digits;
 use refusal::{Fault, Layer, Refusal};
 use std::test::Fail;
 
-// How a text is refused, or that it is not.
-fn refusal_of(text: &[u8]) -> Option<TextFault> {
-    match read_digits(text) {
-        Ok(_) => None,
-        Err(fault) => Some(fault),
-    }
-}
-
 #[test]
 fn texts_are_read(rt: HostRuntime) {
-    assert_eq!(rt; refusal_of(b""), None);
-    assert_eq!(rt; refusal_of(b"\n"), None);
-    assert_eq!(rt; refusal_of(b"01\n"), None);
-    assert_eq!(rt; refusal_of(b"01\n\n"), Some(TextFault::NoDigit));
-    assert_eq!(rt; refusal_of(b"\n01"), Some(TextFault::NoDigit));
-    assert_eq!(rt; refusal_of(b"0 1"), Some(TextFault::NoDigit));
-    assert_eq!(rt; refusal_of(b"012"), Some(TextFault::NoDigit));
+    assert_eq!(rt; read_digits(b"").err(), None);
+    assert_eq!(rt; read_digits(b"\n").err(), None);
+    assert_eq!(rt; read_digits(b"01\n").err(), None);
+    assert_eq!(rt; read_digits(b"01\n\n").err(), Some(TextFault::NoDigit));
+    assert_eq!(rt; read_digits(b"\n01").err(), Some(TextFault::NoDigit));
+    assert_eq!(rt; read_digits(b"0 1").err(), Some(TextFault::NoDigit));
+    assert_eq!(rt; read_digits(b"012").err(), Some(TextFault::NoDigit));
 }
 
 #[test]
@@ -39,9 +31,9 @@ fn text_faults_are_numbered(rt: HostRuntime) {
 #[test]
 fn the_longest_text_is_accepted(rt: HostRuntime) -> Result<(), Fail> {
     let mut text = vec![in rt.alloc(); b'1'; 65_537]?;
-    assert_eq!(rt; refusal_of(&text), Some(TextFault::TooLong));
+    assert_eq!(rt; read_digits(&text).err(), Some(TextFault::TooLong));
     text.truncate(65_536);
-    assert_eq!(rt; refusal_of(&text), None);
+    assert_eq!(rt; read_digits(&text).err(), None);
     let mut bytes = vec![in rt.alloc(); 0u8; 8_192]?;
     assert_eq!(rt; pack_into(&text, &mut bytes), Ok(65_536));
     Ok(())
@@ -58,13 +50,12 @@ fn packing_is_refused_without_harm(rt: HostRuntime) {
     assert!(rt; pack_into(b"00000000000000000", &mut bytes).is_err());
     assert_eq!(rt; bytes[0], 0xEE);
     assert_eq!(rt; pack_into(b"00000001\n", &mut bytes), Ok(8));
-    assert_eq!(rt; bytes[0], 1);
-    assert_eq!(rt; bytes[1], 0xEE);
+    assert_eq!(rt; bytes, [1, 0xEE]);
 }
 
 #[test]
 fn bytes_in_hexadecimal(rt: HostRuntime) -> Result<(), Fail> {
     let shown = hex(rt.alloc(), &[0x4B, 0x2B, 0x09, 0xF0])?;
-    assert!(rt; shown.as_str() == " 4B 2B 09 F0");
+    assert_eq!(rt; shown.as_str(), " 4B 2B 09 F0");
     Ok(())
 }

@@ -17,6 +17,7 @@ comes_from k taken start middle m cells found (Err fault) on fails = λ count re
 pub takes_from : (k taken : ℕ) (bit : Bool) (start middle : Stage) (m : Machine) (cells : List Cell) (found : List ℕ) (r : Result (Unit {0}) StreamFault)
     → ((count : ℕ) (rest : List Bool) → count - length rest ≡ taken → meaning k count middle rest ≡ meaning k count start (bit ∷ rest))
     → Comes k taken middle m cells found r → Takes k taken bit start m cells found r
+unfolding Takes
 takes_from k taken bit start middle m cells found (Ok u) on comes = (comes.0, λ count rest e. comes.1 count rest e ∙ on count rest e)
 takes_from k taken bit start middle m cells found (Err fault) on fails = λ count rest e. sym (on count rest e) ∙ fails count rest e
 

@@ -1,15 +1,15 @@
 -- A dominant pass is over.
-use Rattle.std.proofs.Common.{◌≡◌, ℕ, zero, suc, ◌+◌, ◌-◌, ◌^◌, ◌<◌, ◌≤◌, Bool, true, false, not, ◌&&◌, ◌||◌, ltb, List, [], ◌∷◌, ◌++◌, length, get_or, take, drop, sym, refl, ap, ◌∙◌, ap₂, inl, inr, arith}
-use Rattle.decoder.proofs.Items.{item_part, split_front, length_marks, findings_told, findings_push, listed_kept, listed_where}
+use Rattle.std.proofs.Common.{◌≡◌, ℕ, zero, suc, ◌+◌, ◌-◌, ◌^◌, ◌<◌, ◌≤◌, Bool, true, false, not, ◌&&◌, ◌||◌, ltb, List, [], ◌∷◌, ◌++◌, map, length, get_or, take, drop, Ok, Err, sym, refl, ap, ◌∙◌, ap₂, inl, inr, arith}
+use Rattle.decoder.proofs.Items.{item_part, split_front, length_marks, findings_told, findings_push, listed_kept, listed_where, told_plain}
 use Rattle.decoder.proofs.Holding.{held_weaker, known_most}
 use Rattle.decoder.proofs.Steps.{pass_nothing, pass_missed, pass_end, last_pass_end, blank_missed}
-use Rattle.decoder.specs.Machines.{marks_of, finding_of, findings_of, stage_by, Listed, Walking, Refining, Over, GoesOn, Fails}
+use Rattle.decoder.specs.Machines.{plain, marks_of, finding_of, findings_of, stage_by, stage_of, IsTable, Listed, Walking, Comes, EndsDominant}
 use Rattle.decoder.specs.Stages.{walking, refining, finished, meaning}
 use Rattle.decoder.specs.declared.cell.Cell.{Cell}
 use Rattle.decoder.specs.declared.machine.Machine.{Machine}
 use Rattle.decoder.specs.declared.machine.Waiting.TheVariants.{First, Subordinate, Nothing}
 use Rattle.std.proofs.lemmas.Nat.{pow_pos, pow_below}
-use Rattle.std.proofs.lemmas.List.{length-take-le}
+use Rattle.std.proofs.lemmas.List.{length-map, length-take-le}
 use Rattle.std.proofs.lemmas.Bool.{cases_Bool, both_ways, lt-ltb}
 use Rattle.stream.proofs.Marks.{is_found_append, is_found_findings}
 use Rattle.stream.specs.Passes.{Mark, Finding, skipped, is_found, is_fresh, findings}
@@ -80,9 +80,9 @@ module _ (k : ℕ) (m : Machine) (cells : List Cell) (found : List ℕ) (w : Wal
     length_is = length_marks m.place cells (omega (arith, w.memory, w.inside)) ∙ (let e : m.place ≡ 4 ^ k = omega (arith, w.inside) in e)
 
     -- Nothing is found: then this is the first pass.
-    pub end_nothing : m.count ≡ 0 → (taken : ℕ) → Fails k taken (stage_by First m cells found) (NothingFound taken)
+    ends_nothing : (taken : ℕ) → m.count ≡ 0 → Comes k taken (stage_by First m cells found) m cells found (Err (NothingFound taken))
     unfolding findings_of
-    end_nothing none taken count rest e = elim (cases_Bool m.whole) [
+    ends_nothing taken none = λ count rest e. elim (cases_Bool m.whole) [
       | inl t ↦ absurd (omega (arith, (w.untouched t).0, w.order))
       | inr f ↦
           ap (λ (b : Bool). meaning k count (walking m.exponent b (findings_of cells (take m.before found)) (marks_of m.place cells)) rest) f
@@ -96,10 +96,11 @@ module _ (k : ℕ) (m : Machine) (cells : List Cell) (found : List ℕ) (w : Wal
       not_none = ap is_none all_found ∙ some_listed cells (take m.count found) (omega (arith, length-take-le m.count found count_most))
 
       -- A root is missed: then some label was read.
-      pub end_missed : has_missed_root k (marks_of (4 ^ k) cells) ≡ true → (taken : ℕ) → Fails k taken (stage_by First m cells found) (MissedRoot taken)
-      end_missed missed taken count rest e =
+      ends_missed : (taken : ℕ) (after : List Cell) → true ≡ has_missed_root k (marks_of (4 ^ k) cells)
+          → Comes k taken (stage_by First m cells found) m after found (Err (MissedRoot taken))
+      ends_missed taken after missed = λ count rest e.
           let here : has_missed_root k (marks_of m.place cells) ≡ true =
-          ap (λ (n : ℕ). has_missed_root k (marks_of n cells)) (let s : m.place ≡ 4 ^ k = omega (arith, w.inside) in s) ∙ missed in
+          ap (λ (n : ℕ). has_missed_root k (marks_of n cells)) (let s : m.place ≡ 4 ^ k = omega (arith, w.inside) in s) ∙ sym missed in
           elim (cases_Bool m.whole) [
             | inl t ↦ absurd (both_ways (has_missed_root k (marks_of m.place cells)) (blank_missed k (marks_of m.place cells) (w.untouched t).1) here)
             | inr f ↦
@@ -108,9 +109,15 @@ module _ (k : ℕ) (m : Machine) (cells : List Cell) (found : List ℕ) (w : Wal
                 ∙ ap (λ (n : ℕ). refused (MissedRoot n)) e
           ]
 
-      module _ (sound : has_missed_root k (marks_of (4 ^ k) cells) ≡ false) (after : List Cell) (told : finding_of after ≡ finding_of cells) (long : length after ≡ length cells) where
+      module _ (sound : false ≡ has_missed_root k (marks_of (4 ^ k) cells)) (after : List Cell) (same : map plain after ≡ map plain cells) where
+        told : finding_of after ≡ finding_of cells
+        told = told_plain cells after same
+
+        long : length after ≡ length cells
+        long = sym (length-map after plain) ∙ ap length same ∙ length-map cells plain
+
         here_sound : has_missed_root k (marks_of m.place cells) ≡ false
-        here_sound = ap (λ (n : ℕ). has_missed_root k (marks_of n cells)) (let s : m.place ≡ 4 ^ k = omega (arith, w.inside) in s) ∙ sound
+        here_sound = ap (λ (n : ℕ). has_missed_root k (marks_of n cells)) (let s : m.place ≡ 4 ^ k = omega (arith, w.inside) in s) ∙ sym sound
 
         listed_after : Listed k m.count after found
         listed_after p h = listed_kept cells after (take m.count found) p ∙ walk_listed p h ∙ ap (λ (f : ℕ → Finding). ltb 0 (f p).width) (sym told)
@@ -119,37 +126,64 @@ module _ (k : ℕ) (m : Machine) (cells : List Cell) (found : List ℕ) (w : Wal
         all_after = findings_told cells after (take m.count found) told ∙ sym all_found
 
         -- At the threshold 1 every pass is over.
-        pub end_over : m.exponent ≡ 0 → Over k (finishing m) after found
-        end_over z = record {
-          held = held_weaker k m.exponent m.count (finding_of after) found 0 (rw told w.held) (rw z (omega arith));
-          listed = listed_after;
-          memory = rw long w.memory;
-          ended = refl;
-        }
-
-        pub end_finished : m.exponent ≡ 0 → (taken : ℕ) → GoesOn k taken (stage_by First m cells found) (stage_by Nothing (finishing m) after found)
-        end_finished z taken count rest _ =
-            ap (λ (fs : List Finding). meaning k count (finished fs) rest) all_after
-            ∙ last_end_at k count m.exponent m.whole (findings_of cells (take m.before found)) (marks_of m.place cells) rest z length_is not_none here_sound
+        ends_over : (taken : ℕ) (last : Machine) → m.exponent ≡ 0 → last ≡ finishing m → Comes k taken (stage_by First m cells found) last after found (Ok tt)
+        unfolding stage_of
+        ends_over taken last z e = rw e (
+          record {
+            held = held_weaker k m.exponent m.count (finding_of after) found 0 (rw told w.held) (rw z (omega arith));
+            listed = listed_after;
+            memory = rw long w.memory;
+            ended = refl;
+          },
+          λ count rest _.
+              ap (λ (fs : List Finding). meaning k count (finished fs) rest) all_after
+              ∙ last_end_at k count m.exponent m.whole (findings_of cells (take m.before found)) (marks_of m.place cells) rest z length_is not_none here_sound,
+        )
 
         -- Else the subordinate pass begins.
-        pub end_refining : 1 ≤ m.exponent → Refining k (refining_now m) after found
-        end_refining h = record {
-          held = held_weaker k m.exponent m.count (finding_of after) found (m.exponent - 1) (rw told w.held) (smaller m.exponent h);
-          listed = listed_after;
-          memory = rw long w.memory;
-          low = h;
-          small = w.small;
-          some = some;
-          inside = omega arith;
-          unrefined = λ i _ l. omega (arith, w.held.wide i l, ap (λ (f : ℕ → Finding). (f (get_or found i 0)).width) told);
-        }
+        ends_begins : (taken : ℕ) (next : Machine) → 1 ≤ m.exponent → next ≡ refining_now m → Comes k taken (stage_by First m cells found) next after found (Ok tt)
+        unfolding findings_of stage_of
+        ends_begins taken next h e = rw e (
+          (
+            record {
+              held = held_weaker k m.exponent m.count (finding_of after) found (m.exponent - 1) (rw told w.held) (smaller m.exponent h);
+              listed = listed_after;
+              memory = rw long w.memory;
+              low = h;
+              small = w.small;
+              some = some;
+              inside = omega arith;
+              unrefined = λ i _ l. omega (arith, w.held.wide i l, ap (λ (f : ℕ → Finding). (f (get_or found i 0)).width) told);
+            },
+            some,
+          ),
+          λ count rest _.
+              ap (λ (fs : List Finding). meaning k count (refining m.exponent m.whole [] fs) rest) all_after
+              ∙ pass_end_at k count m.exponent m.whole (findings_of cells (take m.before found)) (marks_of m.place cells) rest h length_is not_none here_sound,
+        )
           where
             smaller : (e : ℕ) → 1 ≤ e → 2 ^ (e - 1) ≤ 2 ^ e
             smaller e h = omega (arith, pow_below (e - 1) e (omega arith))
 
-        pub end_begins : 1 ≤ m.exponent → (taken : ℕ) → GoesOn k taken (stage_by First m cells found) (stage_by Subordinate (refining_now m) after found)
-        unfolding findings_of
-        end_begins h taken count rest _ =
-            ap (λ (fs : List Finding). meaning k count (refining m.exponent m.whole [] fs) rest) all_after
-            ∙ pass_end_at k count m.exponent m.whole (findings_of cells (take m.before found)) (marks_of m.place cells) rest h length_is not_none here_sound
+-- The same for the cells of any table.
+module _ (taken : ℕ) (m : Machine) (cells : List Cell) where
+  pub end_nothing : m.count ≡ 0 → EndsDominant taken m cells m cells (Err (NothingFound taken))
+  unfolding EndsDominant
+  end_nothing none = λ k found table w last. ends_nothing k m cells found w last taken none
+
+  module _ (some : 0 < m.count) (after : List Cell) where
+    pub end_missed : ((k : ℕ) → IsTable k cells → true ≡ has_missed_root k (marks_of (4 ^ k) cells)) → EndsDominant taken m cells m after (Err (MissedRoot taken))
+    unfolding EndsDominant
+    end_missed missed = λ k found table w last. ends_missed k m cells found w last some taken after (missed k table)
+
+    module _ (sound : (k : ℕ) → IsTable k cells → false ≡ has_missed_root k (marks_of (4 ^ k) cells)) (same : map plain after ≡ map plain cells) where
+      pub end_over : (over : Machine) → m.exponent ≡ 0 → over ≡ finishing m → EndsDominant taken m cells over after (Ok tt)
+      unfolding EndsDominant
+      end_over over z e = λ k found table w last. ends_over k m cells found w last some (sound k table) after same taken over z e
+
+      pub end_begins : (next : Machine) → 1 ≤ m.exponent → next ≡ refining_now m → EndsDominant taken m cells next after (Ok tt)
+      unfolding EndsDominant
+      end_begins next h e = λ k found table w last. ends_begins k m cells found w last some (sound k table) after same taken next h e
+
+-- What the end of a dominant pass comes to.
+pub ruleset ends = (end_nothing, end_missed, end_over, end_begins)

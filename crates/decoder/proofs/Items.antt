@@ -1,22 +1,17 @@
 -- What a write to one cell leaves: the marks so far, and what the cells tell of each place.
-use Rattle.std.proofs.Common.{◌≡◌, ℕ, zero, suc, ◌+◌, ◌<◌, ◌≤◌, Bool, true, ◌||◌, eqb, List, [], ◌∷◌, ◌++◌, map, length, get_or, take, drop, set, sym, refl, ap, ◌∙◌, inl, inr, arith}
+use Rattle.std.proofs.Common.{◌≡◌, ℕ, suc, ◌+◌, ◌<◌, ◌≤◌, Bool, true, ◌||◌, eqb, List, [], ◌∷◌, ◌++◌, map, length, get_or, take, drop, set, sym, refl, ap, ◌∙◌, inl, inr, arith}
 use mathlib.Core.Path.{fun_ext}
 use Rattle.decoder.specs.Machines.{clear, mark_of, marks_of, finding_of, findings_of, plain}
 use Rattle.decoder.specs.declared.cell.Cell.{Cell}
+use Rattle.std.proofs.Math.ListN.{get_or-map}
 use Rattle.std.proofs.lemmas.List.{get_or-set_same, get_or-set_other, get_or-take, get_or_past, length-map, length-take-le, length-take, length-drop, get_or-drop, map_push, take_more_set, take-set, set_past, map-append, take-take, take-append-drop}
 use Rattle.std.proofs.lemmas.Bool.{cases_eq, cases_lt, eqb-true, or_cases, false≢true}
 use Rattle.stream.specs.Passes.{Finding, skipped, is_found}
 
--- A map keeps the item at an index, also past the end.
-get_or_map_all : {X Y : Type 0} (f : X → Y) (xs : List X) (i : ℕ) (d : X) → get_or (map f xs) i (f d) ≡ f (get_or xs i d)
-get_or_map_all f [] i d = refl
-get_or_map_all f (x ∷ xs) zero d = refl
-get_or_map_all f (x ∷ xs) (suc i) d = get_or_map_all f xs i d
-
 -- The mark of a place that is passed, and of one that is not.
 pub mark_at : (n : ℕ) (cells : List Cell) (p : ℕ) → p < n → get_or (marks_of n cells) p skipped ≡ mark_of (get_or cells p clear)
 unfolding marks_of
-mark_at n cells p h = get_or_map_all mark_of (take n cells) p clear ∙ ap mark_of (get_or-take n cells p clear h)
+mark_at n cells p h = get_or-map mark_of (take n cells) p clear ∙ ap mark_of (get_or-take n cells p clear h)
 
 pub length_marks : (n : ℕ) (cells : List Cell) → n ≤ length cells → length (marks_of n cells) ≡ n
 unfolding marks_of
@@ -30,22 +25,15 @@ pub marks_more : (n : ℕ) (cells : List Cell) (c : Cell) → n < length cells �
 unfolding marks_of
 marks_more n cells c h = ap (map mark_of) (take_more_set cells n c h) ∙ map_push mark_of (take n cells) c
 
--- The cell at a place after a write.
-pub at_same : (cells : List Cell) (p : ℕ) (c : Cell) → p < length cells → get_or (set cells p c) p clear ≡ c
-at_same cells p c h = get_or-set_same cells p c clear h
-
-pub at_other : (cells : List Cell) (p : ℕ) (c : Cell) (q : ℕ) → (q ≡ p → ⊥) → get_or (set cells p c) q clear ≡ get_or cells q clear
-at_other cells p c q d = get_or-set_other cells p q c clear d
-
 -- What a cell tells of its place.
 abbrev pub tells : ℕ → Cell → Finding
 tells p c = record { place = p; negated = c.negated; low = c.low; width = c.width }
 
 pub told_other : (cells : List Cell) (p : ℕ) (c : Cell) (q : ℕ) → (q ≡ p → ⊥) → finding_of (set cells p c) q ≡ finding_of cells q
-told_other cells p c q d = ap (tells q) (at_other cells p c q d)
+told_other cells p c q d = ap (tells q) (get_or-set_other cells p q c clear d)
 
 pub told_there : (cells : List Cell) (p : ℕ) (c : Cell) → p < length cells → finding_of (set cells p c) p ≡ tells p c
-told_there cells p c h = ap (tells p) (at_same cells p c h)
+told_there cells p c h = ap (tells p) (get_or-set_same cells p c clear h)
 
 -- A write that keeps the quantization cell keeps all that is told.
 pub told_kept : (cells : List Cell) (p : ℕ) (c : Cell) → tells p c ≡ finding_of cells p → finding_of (set cells p c) ≡ finding_of cells
@@ -60,7 +48,7 @@ told_kept cells p c e = fun_ext (λ q. elim (cases_eq q p) [
 -- Heir flags tell nothing of a place.
 pub told_plain : (cells after : List Cell) → map plain after ≡ map plain cells → finding_of after ≡ finding_of cells
 told_plain cells after e = fun_ext (λ q.
-    ap (tells q) (sym (get_or_map_all plain after q clear) ∙ ap (λ (cs : List Cell). get_or cs q clear) e ∙ get_or_map_all plain cells q clear))
+    ap (tells q) (sym (get_or-map plain after q clear) ∙ ap (λ (cs : List Cell). get_or cs q clear) e ∙ get_or-map plain cells q clear))
 
 -- The findings of a list of places depend on these places only.
 pub findings_kept : (cells after : List Cell) (places : List ℕ)

@@ -8,6 +8,7 @@ pub mod Ends
 pub mod Comings
 pub mod Refinements
 pub mod Takings
+pub mod Bits
 pub mod Hearing
 pub mod Starts
 pub mod Runs

@@ -1,22 +1,22 @@
 -- A subordinate pass goes on by one found place, and ends.
-use Rattle.std.proofs.Common.{◌≡◌, ℕ, zero, suc, ◌+◌, ◌-◌, ◌/◌, ◌^◌, ◌<◌, ◌≤◌, Bool, true, false, cond, ◌&&◌, ltb, List, [], ◌∷◌, ◌++◌, length, get_or, take, drop, set, Result, sym, refl, ap, ◌∙◌, ap₂, inl, inr, add-one, arith}
+use Rattle.std.proofs.Common.{◌≡◌, ℕ, zero, suc, ◌+◌, ◌-◌, ◌/◌, ◌^◌, ◌<◌, ◌≤◌, Bool, true, false, cond, ◌&&◌, ltb, List, [], ◌∷◌, ◌++◌, length, get_or, take, drop, set, Ok, Result, sym, refl, ap, ◌∙◌, ap₂, inl, inr, add-one, arith}
 use native.Mathlib.Nat.{pow-succ'}
-use Rattle.decoder.proofs.Comings.{takes_from}
+use Rattle.decoder.proofs.Comings.{comes_from, sound_by, stage_by_lem}
 use Rattle.decoder.proofs.Ends.{some_listed}
 use Rattle.decoder.proofs.Holding.{held_halve, known_most}
 use Rattle.decoder.proofs.Items.{told_other, told_there, findings_part, findings_push, listed_kept}
 use Rattle.decoder.proofs.Steps.{refine_bit, next_pass}
-use Rattle.decoder.specs.Machines.{clear, marks_of, finding_of, findings_of, stage_by, halved_cell, Walking, Refining, GoesOn, Comes, Takes}
+use Rattle.decoder.specs.Machines.{clear, marks_of, finding_of, findings_of, stage_by, halved_cell, Walking, Refining, GoesOn, Walks, Refines}
 use Rattle.decoder.specs.Stages.{Stage, walking, refining, meaning}
 use Rattle.decoder.specs.declared.cell.Cell.{Cell}
 use Rattle.decoder.specs.declared.machine.Machine.{Machine}
 use Rattle.decoder.specs.declared.machine.Waiting.TheVariants.{First, Subordinate}
+use Rattle.stream.specs.declared.fault.StreamFault.{StreamFault}
 use Rattle.std.proofs.lemmas.Nat.{pow_pos}
 use Rattle.std.proofs.lemmas.List.{length-set, length-take-le, drop_all, drop_more, take_more, get_or-take}
 use Rattle.std.proofs.lemmas.Bool.{cases_eq, cases_order, lt-ltb}
 use Rattle.stream.specs.Passes.{Finding, findings, halved}
 use Rattle.stream.specs.Reading.{is_none}
-use Rattle.stream.specs.declared.fault.StreamFault.{StreamFault}
 
 -- ---- The next threshold
 
@@ -44,7 +44,7 @@ module _ (k : ℕ) (m : Machine) (cells : List Cell) (found : List ℕ) (r : Ref
     none_left : drop m.index (take m.count found) ≡ []
     none_left = drop_all m.index (take m.count found) (omega (arith, length-take-le m.count found count_most))
 
-    pub next_walk : Walking k (next_threshold m) cells found
+    next_walk : Walking k (next_threshold m) cells found
     unfolding marks_of findings findings_of
     next_walk = record {
       held = r.held;
@@ -62,7 +62,7 @@ module _ (k : ℕ) (m : Machine) (cells : List Cell) (found : List ℕ) (r : Ref
         always true = refl
         always false = refl
 
-    pub next_meaning : m.whole ≡ false → (taken : ℕ) → GoesOn k taken (stage_by Subordinate m cells found) (stage_by First (next_threshold m) cells found)
+    next_meaning : m.whole ≡ false → (taken : ℕ) → GoesOn k taken (stage_by Subordinate m cells found) (stage_by First (next_threshold m) cells found)
     unfolding marks_of findings_of
     next_meaning begun taken count rest _ =
         next_pass_at k count m.exponent (findings_of cells (take m.count found)) rest r.low
@@ -160,16 +160,6 @@ module _ (k : ℕ) (m : Machine) (cells : List Cell) (found : List ℕ) (r : Ref
         (findings_of cells (drop (m.index + 1) (take m.count found))) b rest
         ∙ ap (λ (left : List Finding). meaning k count (refining m.exponent m.whole (findings_of cells (take m.index found)) left) (b ∷ rest)) (sym (left_is more))
 
--- A bit is taken, and the pass goes on from what it wrote.
-pub take_refine : (k taken : ℕ) (bit : Bool) (start : Stage) (m after : Machine) (cells written : List Cell) (found : List ℕ) (last : Machine) (left : List Cell)
-    (r : Result (Unit {0}) StreamFault) → after ≡ m → written ≡ cells → Refining k m cells found → m.whole ≡ false
-    → ((count : ℕ) (rest : List Bool) → meaning k count (stage_by Subordinate m cells found) rest ≡ meaning k count start (bit ∷ rest))
-    → ((fs : List ℕ) → Refining k after written fs → after.whole ≡ false → Comes k taken (stage_by Subordinate after written fs) last left fs r)
-    → Takes k taken bit start last left found r
-take_refine k taken bit start m after cells written found last left r em ec s begun means comes =
-    takes_from k taken bit start (stage_by Subordinate after written found) last left found r
-    (λ count rest _. rw (em, ec) (means count rest)) (comes found (rw (em, ec) s) (rw em begun))
-
 -- What a step of the pass needs.
 pub refine_fits : (k : ℕ) (m : Machine) (cells : List Cell) (found : List ℕ) → Refining k m cells found → m.index < m.count
     → (m.index < length found) × (get_or found m.index 0 < 4 ^ k)
@@ -179,3 +169,25 @@ refine_fits k m cells found r more = (
   r.held.within m.index more,
   r.held.range (get_or found m.index 0) (r.held.within m.index more),
 )
+
+-- ---- Behind a subordinate bit
+
+module _ (taken : ℕ) (m : Machine) (cells : List Cell) where
+  -- A place is left: its bit is due.
+  pub refines_on : m.waiting ≡ Subordinate → m.index < m.count → Refines taken m cells m cells (Ok tt)
+  unfolding Refines
+  refines_on e more = λ k found table r begun. (
+    sound_by k m cells found Subordinate e (r, more),
+    λ count rest _. ap (λ (s : Stage). meaning k count s rest) (stage_by_lem m cells found Subordinate e),
+  )
+
+  -- Or none is left: the next threshold's dominant pass begins.
+  pub refines_all : (next last : Machine) (left : List Cell) (r : Result (Unit {0}) StreamFault) → m.count ≤ m.index → next ≡ next_threshold m
+      → Walks taken next cells last left r → Refines taken m cells last left r
+  unfolding Walks Refines
+  refines_all next last left r end e walks = λ k found table s begun.
+      comes_from k taken (stage_by Subordinate m cells found) (stage_by First (next_threshold m) cells found) last left found r
+      (next_meaning k m cells found s end begun taken) (rw e at walks k found table (next_walk k m cells found s end))
+
+-- What comes behind a subordinate bit.
+pub ruleset behind_bit = (refines_on, refines_all)

@@ -2,7 +2,7 @@
 use Rattle.std.proofs.Common.{◌≡◌, ℕ, zero, suc, ◌/◌, ◌^◌, ◌<◌, ◌≤◌, Bool, true, false, ◌||◌, eqb, List, [], ◌∷◌, ◌++◌, length, get_or, sym, refl, ap, ◌∙◌, inl, inr, arith}
 use Rattle.scan.proofs.Division.{descends_by_division, descendant_up, descendant_down}
 use Rattle.scan.specs.Tree.{among_quarters, descends}
-use Rattle.std.proofs.lemmas.List.{length_push, get_or_append_left, get_or_past, get_or_push}
+use Rattle.std.proofs.lemmas.List.{length_push, get_or_append_left, get_or_past}
 use Rattle.std.proofs.lemmas.Bool.{or_cases, or_left, or_right, and_parts, and_from, eqb-true, ltb-true, false≢true, cases_lt}
 use Rattle.std.proofs.lemmas.Bool.Decides.{same_from_decides}
 use Rattle.stream.proofs.Somes.{some_true, some_at, some_none}
@@ -42,9 +42,6 @@ mark_before marks m p d = elim (cases_lt p (length marks)) [
   | inl h ↦ get_or_append_left marks (m ∷ []) skipped p h
   | inr h ↦ get_or_past (marks ++ m ∷ []) p skipped (omega (arith, length_push marks m)) ∙ sym (get_or_past marks p skipped h)
 ]
-
-pub mark_last : (marks : List Mark) (m : Mark) (p : ℕ) → p ≡ length marks → get_or (marks ++ m ∷ []) p skipped ≡ m
-mark_last marks m p e = get_or_push marks m skipped p (sym e)
 
 -- It shades no place up to its own.
 pub under_more : (marks : List Mark) (m : Mark) (p : ℕ) → p ≤ length marks → under_root (marks ++ m ∷ []) p ≡ under_root marks p

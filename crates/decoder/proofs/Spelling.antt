@@ -1,7 +1,7 @@
 -- The number that bits spell, one bit at a time.
-use Rattle.std.proofs.Common.{◌≡◌, ℕ, ◌+◌, ◌-◌, ◌*◌, ◌^◌, ◌<◌, ◌≤◌, Bool, true, false, cond, List, [], ◌∷◌, ◌++◌, length, get_or, take, drop, refl, ap, ◌∙◌, add-one, arith}
+use Rattle.std.proofs.Common.{◌≡◌, ℕ, ◌+◌, ◌*◌, ◌^◌, ◌<◌, ◌≤◌, Bool, true, false, cond, List, [], ◌∷◌, ◌++◌, length, take, drop, refl, sym, ap, ◌∙◌, add-one, length-append, append-nil, append_assoc, arith}
 use native.Mathlib.Nat.{pow-succ', pow-le-pow_right}
-use Rattle.std.proofs.lemmas.List.{length_push, length-take, length-drop, get_or-drop, take_more}
+use Rattle.std.proofs.lemmas.List.{length_push, length-take, drop-take}
 use Rattle.stream.specs.Reading.{spells}
 
 -- One more bit doubles the number, and adds itself.
@@ -19,23 +19,32 @@ spells_low [] = omega arith
 spells_low (true ∷ xs) = omega (arith, spells_low xs, pow-succ' 2 (length xs))
 spells_low (false ∷ xs) = omega (arith, spells_low xs, pow-succ' 2 (length xs))
 
--- The bit behind the first so many from a start on.
-pub spells_more : (bits : List Bool) (start index : ℕ) → start ≤ index → index < length bits
-    → spells (take (index + 1 - start) (drop start bits)) ≡ spells (take (index - start) (drop start bits)) * 2 + cond (get_or bits index false) 1 0
-spells_more bits start index l h =
-    let e : index + 1 - start ≡ index - start + 1 = omega arith in
-    let inside : index - start < length (drop start bits) = rw length-drop (omega arith) in
-    let at : get_or (drop start bits) (index - start) false ≡ get_or bits index false =
-    get_or-drop start bits (index - start) false ∙ ap (λ i. get_or bits i false) (omega arith) in
-    rw (e, take_more (drop start bits) (index - start) false inside, at) (spells_push _ _)
-
 -- No bits spell 0.
-pub spells_none : (bits : List Bool) (start : ℕ) → 0 ≡ spells (take (start - start) (drop start bits))
+pub spells_none : 0 ≡ spells []
 unfolding spells
-spells_none bits start = let e : start - start ≡ 0 = omega arith in rw e refl
+spells_none = refl
 
--- Up to seven bits spell a small number.
-pub spells_few : (bits : List Bool) (start index : ℕ) → index ≤ 7 → spells (take (index - start) (drop start bits)) < 128
-spells_few bits start index h =
-    let short : length (take (index - start) (drop start bits)) ≤ 7 = rw length-take (omega arith) in
-    omega (arith, spells_low (take (index - start) (drop start bits)), pow-le-pow_right {n = 2} (omega arith) short)
+-- The first of up to seven bits spell a small number.
+pub spells_few : (xs rest bits : List Bool) (start width : ℕ) → xs ++ rest ≡ take width (drop start bits) → start + width ≤ 7 → spells xs < 128
+spells_few xs rest bits start width e h =
+    let whole = ap length e in
+    let short : length xs ≤ 7 = omega (arith, length-append xs rest, whole, length-take width (drop start bits)) in
+    omega (arith, spells_low xs, pow-le-pow_right {n = 2} (omega arith) short)
+
+-- One more is spelled, whichever way a bit is made a digit.
+pub spells_more : (digit_of : Bool → ℕ) (xs : List Bool) (b : Bool) (value digit : ℕ) → digit_of true ≡ 1 → digit_of false ≡ 0 → value ≡ spells xs → digit ≡ digit_of b
+    → value * 2 + digit ≡ spells (xs ++ b ∷ [])
+spells_more digit_of xs true value digit one none told is = omega (arith, spells_push xs true)
+spells_more digit_of xs false value digit one none told is = omega (arith, spells_push xs false)
+
+-- The bits that are left begin with the next one.
+pub one_more : (xs ys zs whole : List Bool) (b : Bool) → xs ++ ys ≡ whole → ys ≡ b ∷ zs → (xs ++ b ∷ []) ++ zs ≡ whole
+one_more xs ys zs whole b all next = append_assoc xs (b ∷ []) zs ∙ ap (λ (rest : List Bool). xs ++ rest) (sym next) ∙ all
+
+-- All of them are spelled.
+pub spells_all : (xs rest bits : List Bool) (start width value : ℕ) → xs ++ rest ≡ take width (drop start bits) → rest ≡ [] → value ≡ spells xs
+    → value ≡ spells (take width (drop start bits))
+spells_all xs rest bits start width value e none told = told ∙ ap spells (sym (append-nil xs) ∙ ap (λ (ys : List Bool). xs ++ ys) (sym none) ∙ e)
+
+-- What each turn of `number` comes to.
+pub ruleset spelling = (spells_none, spells_few, spells_all, drop-take)

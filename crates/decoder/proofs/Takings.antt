@@ -1,11 +1,10 @@
 -- A bit is taken at the place where a label is due.
-use Rattle.std.proofs.Common.{◌≡◌, ℕ, ◌-◌, ◌*◌, ◌^◌, ◌<◌, Bool, true, false, not, ◌&&◌, List, [], ◌∷◌, ◌++◌, length, get_or, take, set, Decides, Result, sym, refl, ap, ◌∙◌, ap₂, inl, inr, arith}
-use Rattle.decoder.proofs.Comings.{takes_from}
+use Rattle.std.proofs.Common.{◌≡◌, ℕ, ◌-◌, ◌*◌, ◌^◌, ◌<◌, Bool, true, false, not, ◌&&◌, List, [], ◌∷◌, ◌++◌, length, get_or, take, set, Decides, sym, refl, ap, ◌∙◌, ap₂, inl, inr, arith}
 use Rattle.decoder.proofs.Holding.{known_fewer}
 use Rattle.decoder.proofs.Items.{length_marks}
 use Rattle.decoder.proofs.Steps.{label_bits_lem, leaf_root_lem}
 use Rattle.decoder.proofs.Walks.{plain_walk, plain_stage, found_walk, found_stage}
-use Rattle.decoder.specs.Machines.{clear, mark_of, marks_of, finding_of, findings_of, stage_by, passed, with_mark, finding_one, found_at, Walking, Due, Comes, Takes}
+use Rattle.decoder.specs.Machines.{clear, mark_of, marks_of, finding_of, findings_of, stage_by, passed, with_mark, finding_one, found_at, Walking, Due}
 use Rattle.decoder.specs.Stages.{Stage, walking, meaning}
 use Rattle.decoder.specs.declared.cell.Cell.{Cell}
 use Rattle.decoder.specs.declared.cell.Mark.{Mark as CellMark}
@@ -17,7 +16,6 @@ use Rattle.std.proofs.lemmas.Bool.{cases_lt, and_left, le-ltb, lt-ltb, both_ways
 use Rattle.stream.specs.Laws.{SideExponent}
 use Rattle.stream.specs.Passes.{Mark, Label, significant, zerotree_root, labelled, has_children, is_fresh, under_root, due}
 use Rattle.stream.specs.Reading.{label_read, refused}
-use Rattle.stream.specs.declared.fault.StreamFault.{StreamFault}
 use Rattle.stream.specs.declared.fault.StreamFault.TheVariants.{RootAtLeaf}
 
 -- What the tree's own test says.
@@ -53,14 +51,11 @@ module _ (k : ℕ) (m : Machine) (cells : List Cell) (found : List ℕ) (d : Due
       d.clear_above
 
   -- What finding the place needs.
-  pub find_fits : SideExponent k → (m.exponent < 15) × (m.place < 4096) × (m.place < length cells) × (m.count < 4 ^ k) × (m.count < length found)
+  pub find_fits : SideExponent k → (m.exponent < 15) × ((m.place < 4096) × ((m.place < length cells) × (m.count < length found)))
   find_fits side =
       let room : m.count < 4 ^ k = omega (arith, d.walk.held.counted, known_fewer (finding_of cells) (4 ^ k) m.place d.place_in d.unknown) in (
         omega (arith, d.walk.small),
-        omega (arith, d.place_in, places_most_lem k side.1),
-        omega (arith, d.place_in, d.walk.memory),
-        room,
-        omega (arith, room, d.walk.held.memory),
+        (omega (arith, d.place_in, places_most_lem k side.1), (omega (arith, d.place_in, d.walk.memory), omega (arith, room, d.walk.held.memory))),
       )
 
   -- Its first bit.
@@ -123,13 +118,3 @@ module _ (k : ℕ) (m : Machine) (cells : List Cell) (found : List ℕ) (d : Due
       leaf_root_lem k count m.exponent (findings_of cells (take m.before found)) (marks_of m.place cells) rest
       (omega (arith, length_is, d.place_in)) due_now (ap (has_children k) length_is ∙ leaf)
       ∙ ap (λ (n : ℕ). refused (RootAtLeaf n)) e
-
--- A label is taken, and the walk goes on from what it wrote.
-pub take_label : (k taken : ℕ) (bit : Bool) (start : Stage) (m after : Machine) (cells written : List Cell) (found listed : List ℕ) (last : Machine) (left : List Cell)
-    (r : Result (Unit {0}) StreamFault) → after ≡ m → written ≡ cells → listed ≡ found → Walking k m cells found
-    → ((count : ℕ) (rest : List Bool) → meaning k count (stage_by First m cells found) rest ≡ meaning k count start (bit ∷ rest))
-    → ((fs : List ℕ) → Walking k after written fs → Comes k taken (stage_by First after written fs) last left fs r)
-    → Takes k taken bit start last left listed r
-take_label k taken bit start m after cells written found listed last left r em ec ef w means comes =
-    takes_from k taken bit start (stage_by First after written listed) last left listed r
-    (λ count rest _. rw (em, ec, ef) (means count rest)) (comes listed (rw (em, ec, ef) w))

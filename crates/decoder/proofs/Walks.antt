@@ -1,14 +1,14 @@
 -- A dominant pass goes on by one place: passed over, or labelled.
 use Rattle.std.proofs.Common.{◌≡◌, ℕ, ◌+◌, ◌/◌, ◌^◌, ◌<◌, ◌≤◌, Bool, true, false, not, ◌&&◌, ◌||◌, eqb, ltb, List, [], ◌∷◌, ◌++◌, length, get_or, take, drop, set, sym, refl, ap, ◌∙◌, ap₂, inl, inr, zero-add, arith}
 use Rattle.decoder.proofs.Holding.{known_fewer, held_find, not_listed}
-use Rattle.decoder.proofs.Items.{mark_at, mark_past, length_marks, marks_more, at_same, at_other, tells, told_other, told_there, told_kept, findings_part, findings_told, findings_push, listed_kept}
-use Rattle.decoder.proofs.Shades.{under_more, under_first, under_parent, mark_before, mark_last}
+use Rattle.decoder.proofs.Items.{mark_at, mark_past, length_marks, marks_more, tells, told_other, told_there, told_kept, findings_part, findings_told, findings_push, listed_kept}
+use Rattle.decoder.proofs.Shades.{under_more, under_first, under_parent, mark_before}
 use Rattle.decoder.specs.Machines.{clear, mark_of, marks_of, finding_of, findings_of, stage_by, passed, finding_one, found_at, shade_at, Walking}
 use Rattle.decoder.specs.Stages.{walking}
 use Rattle.decoder.specs.declared.cell.Cell.{Cell}
 use Rattle.decoder.specs.declared.machine.Machine.{Machine}
 use Rattle.decoder.specs.declared.machine.Waiting.TheVariants.{First}
-use Rattle.std.proofs.lemmas.List.{append-nil, length-set, length-take-le, take_more_set, take-set-le, drop-append-le}
+use Rattle.std.proofs.lemmas.List.{get_or-set_same, get_or-set_other, get_or_push, append-nil, length-set, length-take-le, take_more_set, take-set-le, drop-append-le}
 use Rattle.std.proofs.lemmas.Bool.{cases_eq, cases_lt, lt-ltb, le-ltb, ne_eqb, eq-eqb, and_left, and_right, both_ways}
 use Rattle.stream.proofs.Marks.{findings_append}
 use Rattle.stream.specs.Laws.{SideExponent}
@@ -70,14 +70,14 @@ module _ (k : ℕ) (m : Machine) (cells : List Cell) (found : List ℕ) (w : Wal
     marked q d = ap (λ (ms : List Mark). get_or ms q skipped) more ∙ mark_before (marks_of m.place cells) (mark_of c) q (λ e. d (e ∙ length_is))
 
     marked_here : get_or (marks_of (m.place + 1) (set cells m.place c)) m.place skipped ≡ mark_of c
-    marked_here = ap (λ (ms : List Mark). get_or ms m.place skipped) more ∙ mark_last (marks_of m.place cells) (mark_of c) m.place (sym length_is)
+    marked_here = ap (λ (ms : List Mark). get_or ms m.place skipped) more ∙ get_or_push (marks_of m.place cells) (mark_of c) skipped m.place length_is
 
     shades_more : c.shaded ≡ under_root (marks_of m.place cells) m.place → (q : ℕ) → q < m.place + 1
         → (get_or (set cells m.place c) q clear).shaded ≡ under_root (marks_of (m.place + 1) (set cells m.place c)) q
     shades_more shade q h =
         elim (cases_eq q m.place) [
-          | inl e ↦ rw (e, at_same cells m.place c (omega (arith, w.memory))) shade
-          | inr d ↦ rw (at_other cells m.place c q d) (w.shades q (omega arith))
+          | inl e ↦ rw (e, get_or-set_same cells m.place c clear (omega (arith, w.memory))) shade
+          | inr d ↦ rw (get_or-set_other cells m.place q c clear d) (w.shades q (omega arith))
         ]
         ∙ sym (ap (λ (ms : List Mark). under_root ms q) more ∙ under_more (marks_of m.place cells) (mark_of c) q (omega (arith, length_is)))
 

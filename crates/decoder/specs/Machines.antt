@@ -7,6 +7,7 @@ use Rattle.decoder.specs.declared.cell.Mark.TheVariants.{Skipped, Significant, R
 use Rattle.decoder.specs.declared.machine.Machine.{Machine}
 use Rattle.decoder.specs.declared.machine.Waiting.{Waiting}
 use Rattle.decoder.specs.declared.machine.Waiting.TheVariants.{First, Second, Subordinate, Nothing}
+use Rattle.stream.specs.Laws.{SideExponent}
 use Rattle.stream.specs.Passes.{Finding, Mark, skipped, labelled, significant, zerotree_root, isolated_zero, is_found, is_fresh, is_root, under_root, findings}
 use Rattle.stream.specs.Reading.{refused}
 use Rattle.stream.specs.declared.fault.StreamFault.{StreamFault}
@@ -27,6 +28,11 @@ mark_of c = elim c.mark [
 -- The marks of the first n places.
 unfoldable pub marks_of : ℕ → List Cell → List Mark
 marks_of n cells = map mark_of (take n cells)
+
+-- These are the cells of a table with 4 ^ k places.
+pub record IsTable (k : ℕ) (cells : List Cell) : Type 0 where
+  pub side : SideExponent k
+  pub size : length cells ≡ 4 ^ k
 
 -- A cell but for its heir flag, which only the end of a dominant pass uses.
 abbrev pub plain : Cell → Cell
@@ -204,8 +210,22 @@ abbrev pub Comes : ℕ → ℕ → Stage → Machine → List Cell → List ℕ 
 Comes k taken before m cells found (Ok u) = Sound k m cells found × GoesOn k taken before (stage_of m cells found)
 Comes k taken before m cells found (Err fault) = Fails k taken before fault
 
+-- What a step without a bit comes to, over the cells of any table and for any list of found places that the machine keeps: in a dominant pass,
+unfoldable pub Walks : ℕ → Machine → List Cell → Machine → List Cell → Result (Unit {0}) StreamFault → Type 0
+Walks taken m cells after left r = (k : ℕ) (found : List ℕ) → IsTable k cells → Walking k m cells found → Comes k taken (stage_by First m cells found) after left found r
+
+-- behind its last place,
+unfoldable pub EndsDominant : ℕ → Machine → List Cell → Machine → List Cell → Result (Unit {0}) StreamFault → Type 0
+EndsDominant taken m cells after left r =
+    (k : ℕ) (found : List ℕ) → IsTable k cells → Walking k m cells found → 4 ^ k ≤ m.place → Comes k taken (stage_by First m cells found) after left found r
+
+-- and in a subordinate pass with a bit taken.
+unfoldable pub Refines : ℕ → Machine → List Cell → Machine → List Cell → Result (Unit {0}) StreamFault → Type 0
+Refines taken m cells after left r =
+    (k : ℕ) (found : List ℕ) → IsTable k cells → Refining k m cells found → m.whole ≡ false → Comes k taken (stage_by Subordinate m cells found) after left found r
+
 -- A bit is taken.
-abbrev pub Takes : ℕ → ℕ → Bool → Stage → Machine → List Cell → List ℕ → Result (Unit {0}) StreamFault → Type 0
+unfoldable pub Takes : ℕ → ℕ → Bool → Stage → Machine → List Cell → List ℕ → Result (Unit {0}) StreamFault → Type 0
 Takes k taken bit before m cells found (Ok u) =
     Sound k m cells found
     × ((count : ℕ) (rest : List Bool) → count - length rest ≡ taken → meaning k count (stage_of m cells found) rest ≡ meaning k count before (bit ∷ rest))

@@ -45,7 +45,7 @@ impl Cell {
         if self.width == 0 {
             return 0;
         }
-        let magnitude = (u32::from(self.low) + u32::from(self.width / 2)).min(32_767) as i32;
+        let magnitude = (i32::from(self.low) + i32::from(self.width / 2)).min(32_767);
         if self.negated { -magnitude } else { magnitude }
     }
 }

@@ -1,4 +1,4 @@
-ghost use Rattle.std.specs.Prelude.{◌≡◌, ◌^◌, ◌≤◌, ◌++◌, length, drop, replicate};
+ghost use Rattle.std.specs.Prelude.{◌≡◌, ◌^◌, ◌≤◌, length, replicate};
 ghost use Rattle.decoder.specs.Cells.{Decodes, StandPast};
 ghost use Rattle.decoder.specs.Machines.{clear};
 ghost use Rattle.stream.specs.Reading.{reading};
@@ -6,7 +6,7 @@ ghost use Rattle.stream.specs.Reading.{reading};
 use super::cell::Cell;
 use super::header::number;
 use super::machine::Machine;
-use bits::source::{Answer, Source};
+use bits::source::Source;
 use scan::Side;
 use stream::fault::StreamFault;
 
@@ -16,15 +16,15 @@ pub struct Decoded {
     pub whole: bool,
 }
 
-// Nothing is found at the first places.
-fn clear_places(places: usize, cells: &mut [Cell])
-    requires { places ≤ length cells.old }
-    ensures { cells.new ≡ replicate places clear ++ drop places cells.old }
+// Nothing is found.
+fn clear_cells(cells: &mut [Cell])
+    ensures { cells.new ≡ replicate (length cells.old) clear }
 {
-    cells[0..places].fill(Cell::CLEAR);
+    cells.fill(Cell::CLEAR);
 }
 
 // Reads all bits of a source for a table of this side.
+#[tactic(auto, using(crate::proofs::Runs::decoding))]
 pub fn decode<S: Source>(
     side: Side,
     source: &S,
@@ -43,10 +43,13 @@ pub fn decode<S: Source>(
     if number(source, 0, 3) != side.exponent() {
         return Err(StreamFault::OtherSide);
     }
-    clear_places(side.places(), cells);
+    let places = side.places();
+    let cells = &mut cells[..places];
+    let found = &mut found[..places];
+    clear_cells(cells);
     let mut machine = Machine::start(number(source, 3, 4));
     for index in 7..count {
-        let Answer::Bit(bit) = source.bit(index) else {
+        let Some(bit) = source.bit(index) else {
             break;
         };
         machine.take(side, bit, index, cells, found)?;

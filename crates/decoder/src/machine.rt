@@ -1,7 +1,6 @@
 ghost use Rattle.std.specs.Prelude.{◌≡◌, ℕ, ◌+◌, ◌^◌, ◌<◌, ◌≤◌, false, not, ◌&&◌, List, length, get_or, ◌==◌, slice_index, slice_index_or, slice_set};
-ghost use Rattle.decoder.specs.Cells.{StandPast};
-ghost use Rattle.decoder.specs.Machines.{clear, started, passed, with_mark, finding_one, found_at, shade_at, reached, refined_one, halved_cell, stage_of, stage_by, Walking, Refining, Sound, Comes, Takes};
-ghost use Rattle.decoder.specs.declared.machine.Waiting.TheVariants.{First, Subordinate};
+ghost use Rattle.decoder.specs.Machines.{clear, started, passed, with_mark, finding_one, found_at, shade_at, reached, refined_one, halved_cell, stage_of, Sound, Walks, EndsDominant, Refines, Takes};
+ghost use Rattle.decoder.specs.declared.machine.Waiting.TheVariants.{Subordinate};
 
 use super::cell::{Cell, Mark};
 use super::missed::missed_root;
@@ -75,6 +74,7 @@ impl Machine {
     }
 
     // Takes the bit at an index of the source.
+    #[tactic(auto, using(crate::proofs::Bits::one_bit))]
     pub fn take(
         &mut self,
         side: Side,
@@ -83,11 +83,10 @@ impl Machine {
         cells: &mut [Cell],
         found: &mut [u16],
     ) -> Result<(), StreamFault>
+        requires table { length cells.old ≡ 4 ^ side.exponent }
         requires sound { Sound side.exponent self.old cells.old found.old }
         requires bits { index + 1 < 2 ^ 64 }
-        ensures takes { Takes side.exponent (index + 1) bit (stage_of self.old cells.old found.old) self.new cells.new found.new result }
-        ensures cells_stand { StandPast (4 ^ side.exponent) cells.old cells.new }
-        ensures found_stands { StandPast (4 ^ side.exponent) found.old found.new }
+        ensures { Takes side.exponent (index + 1) bit (stage_of self.old cells.old found.old) self.new cells.new found.new result }
     {
         let taken = index + 1;
         match (self.waiting, bit) {
@@ -98,23 +97,23 @@ impl Machine {
             }
             (Waiting::Second { first: true }, negated) => {
                 self.find(negated, cells, found);
-                self.walk(side, taken, cells)
+                self.walk(taken, cells)
             }
             (Waiting::Second { first: false }, true) => {
                 if !side.has_children(self.place) {
                     return Err(StreamFault::RootAtLeaf { taken });
                 }
                 self.label(Mark::Root, cells);
-                self.walk(side, taken, cells)
+                self.walk(taken, cells)
             }
             (Waiting::Second { first: false }, false) => {
                 self.label(Mark::Zero, cells);
-                self.walk(side, taken, cells)
+                self.walk(taken, cells)
             }
             (Waiting::Subordinate, upper) => {
                 self.whole = false;
                 self.refine(upper, cells, found);
-                self.next_refinement(side, taken, cells)
+                self.next_refinement(taken, cells)
             }
             (Waiting::Nothing, _) => Err(StreamFault::BitsAfterEnd { taken: index }),
         }
@@ -149,36 +148,30 @@ impl Machine {
     }
 
     // Passes over the places that are not due, up to the next label or the end of the dominant pass.
-    fn walk(&mut self, side: Side, taken: usize, cells: &mut [Cell]) -> Result<(), StreamFault>
-        requires { 4 ^ side.exponent ≤ length cells.old }
-        ensures comes { (found : List ℕ) → Walking side.exponent self.old cells.old found → Comes side.exponent taken (stage_by First self.old cells.old found) self.new cells.new found result }
-        ensures stand { StandPast (4 ^ side.exponent) cells.old cells.new }
+    #[tactic(auto, using(crate::proofs::Places::walks))]
+    fn walk(&mut self, taken: usize, cells: &mut [Cell]) -> Result<(), StreamFault>
+        ensures { Walks taken self.old cells.old self.new cells.new result }
     {
-        while self.place < side.places() {
-            if reach(self.place, cells) {
+        for place in self.place..cells.len() {
+            if reach(place, cells) {
+                self.place = place;
                 self.waiting = Waiting::First;
                 return Ok(());
             }
-            self.place += 1;
         }
-        self.end_dominant(side, taken, cells)
+        self.place = cells.len();
+        self.end_dominant(taken, cells)
     }
 
     // The dominant pass is over: its two rules, and then the subordinate pass, but for the threshold 1.
-    fn end_dominant(
-        &mut self,
-        side: Side,
-        taken: usize,
-        cells: &mut [Cell],
-    ) -> Result<(), StreamFault>
-        requires { 4 ^ side.exponent ≤ length cells.old }
-        ensures comes { (found : List ℕ) → Walking side.exponent self.old cells.old found → 4 ^ side.exponent ≤ self.old.place → Comes side.exponent taken (stage_by First self.old cells.old found) self.new cells.new found result }
-        ensures stand { StandPast (4 ^ side.exponent) cells.old cells.new }
+    #[tactic(auto, using(crate::proofs::Ends::ends))]
+    fn end_dominant(&mut self, taken: usize, cells: &mut [Cell]) -> Result<(), StreamFault>
+        ensures { EndsDominant taken self.old cells.old self.new cells.new result }
     {
         if self.count == 0 {
             return Err(StreamFault::NothingFound { taken });
         }
-        if missed_root(side, cells) {
+        if missed_root(cells) {
             return Err(StreamFault::MissedRoot { taken });
         }
         if self.exponent == 0 {
@@ -198,7 +191,7 @@ impl Machine {
         ensures machine { self.new ≡ refined_one self.old }
         ensures cell { cells.new ≡ slice_set cells.old (slice_index found.now self.old.index) (halved_cell upper (slice_index_or cells.old (slice_index found.now self.old.index) clear)) }
     {
-        let cell = &mut cells[found[self.index] as usize];
+        let cell = &mut cells[usize::from(found[self.index])];
         cell.width /= 2;
         if upper {
             cell.low += cell.width;
@@ -207,16 +200,11 @@ impl Machine {
     }
 
     // The next subordinate bit, or the next threshold's dominant pass.
-    fn next_refinement(
-        &mut self,
-        side: Side,
-        taken: usize,
-        cells: &mut [Cell],
-    ) -> Result<(), StreamFault>
-        requires in_bounds { (4 ^ side.exponent ≤ length cells.old) × (1 ≤ self.old.exponent) }
+    #[tactic(auto, using(crate::proofs::Refinements::behind_bit))]
+    fn next_refinement(&mut self, taken: usize, cells: &mut [Cell]) -> Result<(), StreamFault>
+        requires threshold { 1 ≤ self.old.exponent }
         requires waits { self.old.waiting ≡ Subordinate }
-        ensures comes { (found : List ℕ) → Refining side.exponent self.old cells.old found → self.old.whole ≡ false → Comes side.exponent taken (stage_by Subordinate self.old cells.old found) self.new cells.new found result }
-        ensures stand { StandPast (4 ^ side.exponent) cells.old cells.new }
+        ensures { Refines taken self.old cells.old self.new cells.new result }
     {
         if self.index < self.count {
             return Ok(());
@@ -225,6 +213,6 @@ impl Machine {
         self.place = 0;
         self.before = self.count;
         self.whole = true;
-        self.walk(side, taken, cells)
+        self.walk(taken, cells)
     }
 }

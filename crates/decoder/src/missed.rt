@@ -1,39 +1,29 @@
-ghost use Rattle.std.specs.Prelude.{◌≡◌, ℕ, ◌^◌, ◌<◌, ◌≤◌, false, not, ◌&&◌, ◌||◌, map, length, slice_index_or};
-ghost use Rattle.decoder.specs.Cells.{StandPast};
+ghost use Rattle.std.specs.Prelude.{◌≡◌, ℕ, ◌^◌, ◌<◌, not, ◌&&◌, ◌||◌, map, slice_index_or};
 ghost use Rattle.decoder.specs.Heirs.{has_heir, is_zero};
-ghost use Rattle.decoder.specs.Machines.{clear, plain, mark_of, marks_of};
+ghost use Rattle.decoder.specs.Machines.{clear, plain, mark_of, marks_of, IsTable};
 ghost use Rattle.stream.specs.Passes.{is_fresh};
 ghost use Rattle.stream.specs.Reading.{has_missed_root};
 
 use super::cell::{Cell, Mark};
-use scan::Side;
 
 // Whether some isolated zero with children has no descendant found in this pass. Only the first quarter of the places have children.
-pub fn missed_root(side: Side, cells: &mut [Cell]) -> bool
-    requires { 4 ^ side.exponent ≤ length cells.old }
-    ensures tells { result ≡ has_missed_root side.exponent (marks_of (4 ^ side.exponent) cells.old) }
+pub fn missed_root(cells: &mut [Cell]) -> bool
+    ensures tells { (k : ℕ) → IsTable k cells.old → result ≡ has_missed_root k (marks_of (4 ^ k) cells.old) }
     ensures same { map plain cells.new ≡ map plain cells.old }
-    ensures stand { StandPast (4 ^ side.exponent) cells.old cells.new }
 {
-    flag_heirs(side, cells);
-    for place in 0..side.places() / 4 {
-        if is_missed(cells[place]) {
-            return true;
-        }
-    }
-    false
+    flag_heirs(cells);
+    let parents = cells.len() / 4;
+    cells[..parents].iter().any(|cell| is_missed(*cell))
 }
 
 // Flags the places that have an heir. One run from the last place to the first tells every parent of its heirs.
-fn flag_heirs(side: Side, cells: &mut [Cell])
-    requires { 4 ^ side.exponent ≤ length cells.old }
-    ensures heirs { (p : ℕ) → p < 4 ^ side.exponent → (slice_index_or cells.new p clear).heir ≡ has_heir (4 ^ side.exponent) (marks_of (4 ^ side.exponent) cells.old) p }
+#[tactic(auto, using(crate::proofs::Heirs::tells_heirs))]
+fn flag_heirs(cells: &mut [Cell])
+    ensures heirs { (k : ℕ) → IsTable k cells.old → (p : ℕ) → p < 4 ^ k → (slice_index_or cells.new p clear).heir ≡ has_heir (4 ^ k) (marks_of (4 ^ k) cells.old) p }
     ensures same { map plain cells.new ≡ map plain cells.old }
-    ensures stand { StandPast (4 ^ side.exponent) cells.old cells.new }
 {
-    let places = side.places();
-    clear_heirs(places, cells);
-    for place in (1..places).rev() {
+    clear_heirs(cells);
+    for place in (1..cells.len()).rev() {
         if gives_heir(cells[place]) {
             cells[place / 4].heir = true;
         }
@@ -55,13 +45,10 @@ fn is_missed(cell: Cell) -> bool
 }
 
 // Flags no place.
-fn clear_heirs(places: usize, cells: &mut [Cell])
-    requires { places ≤ length cells.old }
-    ensures cleared { (p : ℕ) → p < places → (slice_index_or cells.new p clear).heir ≡ false }
-    ensures same { map plain cells.new ≡ map plain cells.old }
-    ensures stand { StandPast places cells.old cells.new }
+fn clear_heirs(cells: &mut [Cell])
+    ensures { cells.new ≡ map plain cells.old }
 {
-    for place in 0..places {
-        cells[place].heir = false;
+    for cell in cells {
+        cell.heir = false;
     }
 }

@@ -49,8 +49,5 @@ pub fn number_of_row<K: EntryKind>(row: K::Row) -> i32
 pub fn row_of_number<K: EntryKind>(number: i32) -> Option<K::Row>
     ensures { Made number (λ row. K.EntryKind.number (K.EntryKind.entry row) ≡ number) result }
 {
-    match K::from_number(number) {
-        Some(entry) => Some(entry.to_row()),
-        None => None,
-    }
+    K::from_number(number).map(|entry| entry.to_row())
 }

@@ -1,8 +1,7 @@
 ghost use Rattle.std.specs.Prelude.{◌≡◌, ◌≤◌, false};
 
 // An entry that is a polarity and a level, from 0 to 32,767: never inverted at level 0.
-// (Without `Eq`, whose derived impl would take the name `PartialEq`.)
-#[derive(Clone, Copy, PartialEq, Debug)]
+#[derive(Clone, Copy, PartialEq, Eq, Debug)]
 pub struct Partial {
     pub inverted: bool,
     pub level: u16,

@@ -1,17 +1,10 @@
 ghost use Rattle.std.specs.Prelude.{◌≡◌, pos, int_lt, unsigned_abs};
-ghost use Rattle.entries.specs.Partials.{partial_number, partial_entry, kept_level};
+ghost use Rattle.entries.specs.Partials.{partial_number, partial_entry};
 ghost use Rattle.entries.specs.Range.{Made};
-ghost use Rattle.std.proofs.Common.{rules, arith};
+ghost use Rattle.std.proofs.Common.{rules};
 
 use super::kind::{EntryKind, in_range};
 use super::partial::{Partial, PartialRow};
-
-// The level of the entry that a row of this level stands for.
-fn row_level(level: u16) -> u16
-    ensures { result ≡ kept_level level }
-{
-    if level <= 32_767 { level } else { 0 }
-}
 
 // A row is the polarity and the level; where no entry has both, it stands for 0.
 impl EntryKind for Partial {
@@ -21,7 +14,7 @@ impl EntryKind for Partial {
 
     ghost entry = { partial_entry };
 
-    ghost within = { first_of (Prim.search rules, Prim.grind (arith, Self.row.coded.inj)) };
+    ghost within = { Prim.search rules };
 
     fn number(&self) -> i32 {
         let level = i32::from(self.level);
@@ -42,7 +35,7 @@ impl EntryKind for Partial {
     }
 
     fn of_row(row: PartialRow) -> Self {
-        let level = row_level(row.level);
+        let level = if row.level <= 32_767 { row.level } else { 0 };
         Partial {
             inverted: row.inverted && level > 0,
             level,

@@ -1,17 +1,8 @@
 ghost use Rattle.std.specs.Prelude.{◌≡◌};
-ghost use Rattle.entries.specs.Range.{kept};
 ghost use Rattle.entries.specs.Surfaces.{surface_entry};
-ghost use Rattle.std.proofs.Common.{rules, arith};
 
 use super::kind::{EntryKind, in_range};
 use super::surface::Surface;
-
-// The number of the entry that a row stands for.
-fn row_number(row: i16) -> i16
-    ensures { result ≡ kept row }
-{
-    if in_range(i32::from(row)) { row } else { 0 }
-}
 
 // A row is the number; −32,768, which no entry has, stands for 0.
 impl EntryKind for Surface {
@@ -21,7 +12,7 @@ impl EntryKind for Surface {
 
     ghost entry = { surface_entry };
 
-    ghost within = { first_of (Prim.search rules, Prim.grind (arith, Self.row.coded.inj)) };
+    ghost within = { λ x. x.within };
 
     fn number(&self) -> i32 {
         i32::from(self.number)
@@ -37,9 +28,7 @@ impl EntryKind for Surface {
     }
 
     fn of_row(row: i16) -> Self {
-        Surface {
-            number: row_number(row),
-        }
+        Self::from_number(i32::from(row)).unwrap_or(Surface { number: 0 })
     }
 
     fn to_row(&self) -> i16

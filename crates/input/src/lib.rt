@@ -13,16 +13,9 @@ const READ_MOST: usize = 65_537;
 pub fn read_text(rt: &HostRuntime) -> io::Result<Vec<u8>>
     ensures { IfOk result (λ text. vec_len text ≤ 65537) }
 {
-    let mut input = rt.stdin();
-    let mut text = vec![in rt.alloc(); 0u8; READ_MOST]?;
-    let mut len = 0;
-    while len < text.len() {
-        let got = input.read(&mut text[len..])?;
-        if got == 0 {
-            break;
-        }
-        len += got;
-    }
-    text.truncate(len);
+    let mut text = Vec::new(rt.alloc());
+    rt.stdin().take(READ_MOST as u64).read_to_end(&mut text)?;
+    // `take` has kept to this already, but no contract says so.
+    text.truncate(READ_MOST);
     Ok(text)
 }

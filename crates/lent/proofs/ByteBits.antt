@@ -1,15 +1,12 @@
 -- The bits of a byte: masks and shifts against quotients and remainders, by trial of all bytes and weights.
 use lib.Bits.{bit_and, bit_or}
-use Rattle.std.proofs.Common.{◌≡◌, ℕ, ◌-◌, ◌*◌, ◌/◌, ◌%◌, ◌^◌, ◌<◌, ◌≤◌, Bool, true, false, cond, not, T, eqb, refl, arith, eqb→eq, ne_eqb}
+use Rattle.std.proofs.Common.{◌≡◌, ℕ, ◌-◌, ◌*◌, ◌%◌, ◌^◌, ◌<◌, ◌≤◌, Bool, true, false, cond, not, T, eqb, refl, arith, eqb→eq, ne_eqb}
 use Rattle.lent.specs.Layouts.{bit_in, byte_with_bit}
 use Rattle.lent.proofs.Trials.{every, below}
 
 -- a test passes at every byte and weight
 at_all : (f : ℕ → ℕ → Bool) → T (every 256 (λ x. every 8 (f x))) → (x w : ℕ) → x < 256 → w ≤ 7 → T (f x w)
 at_all f t x w hx hw = below 8 (f x) (below 256 (λ y. every 8 (f y)) t x hx) w (omega arith)
-
-pub and_one : (x w : ℕ) → x < 256 → w ≤ 7 → bit_and (x / 2 ^ w) 1 ≡ x / 2 ^ w % 2
-and_one x w hx hw = eqb→eq _ _ (at_all (λ y v. eqb (bit_and (y / 2 ^ v) 1) (y / 2 ^ v % 2)) tt x w hx hw)
 
 pub or_mask : (x w : ℕ) → x < 256 → w ≤ 7 → bit_or x (1 * 2 ^ w % 256) ≡ byte_with_bit x w true
 or_mask x w hx hw = eqb→eq _ _ (at_all (λ y v. eqb (bit_or y (1 * 2 ^ v % 256)) (byte_with_bit y v true)) tt x w hx hw)

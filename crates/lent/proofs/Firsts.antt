@@ -1,7 +1,6 @@
 -- The first values of a rule, and the bits of lent bytes: how many there are, which one stands where, one more, fewer.
-use Rattle.std.proofs.Common.{◌≡◌, ℕ, ◌+◌, ◌<◌, ◌≤◌, min, Bool, false, List, [], ◌∷◌, ◌++◌, length, get_or, take, sym, ap, ◌∙◌, zero-add, arith}
+use Rattle.std.proofs.Common.{◌≡◌, ℕ, ◌+◌, ◌<◌, ◌≤◌, min, Bool, false, List, [], ◌∷◌, ◌++◌, length, get_or, take, Some, None, sym, ap, ◌∙◌, zero-add, arith}
 use Rattle.bits.specs.Bits.{Told}
-use Rattle.bits.specs.declared.source.Answer.TheVariants.{Bit, Ended}
 use Rattle.std.proofs.lemmas.List.FromFn.{length-map-range_with_len, get_or-map-range_with_len, take-map-range_with_len, map-range_with_len_more}
 use Rattle.std.proofs.lemmas.List.{ext_get_or, nil_from_length}
 use Rattle.lent.specs.Layouts.{first, lent_bits, Written}
@@ -32,27 +31,27 @@ module _ (space : ℕ → ℕ) (at : List ℕ → ℕ → Bool) (bytes : List �
   unfolding lent_bits
   length_lent = length_first (at bytes) (min count (space (length bytes)))
 
-  pub told_lent : (i : ℕ) → i < min count (space (length bytes)) → Told (lent_bits space at bytes count) i (Bit (at bytes i))
+  pub told_lent : (i : ℕ) → i < min count (space (length bytes)) → Told (lent_bits space at bytes count) i (Some (at bytes i))
   unfolding lent_bits
   told_lent i h = (rw length_lent h, sym (get_or_first (at bytes) (min count (space (length bytes))) i h))
 
-  pub ended_lent : (i : ℕ) → min count (space (length bytes)) ≤ i → Told (lent_bits space at bytes count) i Ended
+  pub ended_lent : (i : ℕ) → min count (space (length bytes)) ≤ i → Told (lent_bits space at bytes count) i None
   ended_lent i h = rw length_lent h
 
-  pub cut_lent : (n : ℕ) → n ≤ min count (space (length bytes)) → lent_bits space at bytes n ≡ take n (lent_bits space at bytes count)
+  pub cut_lent : (n : ℕ) → n ≤ length (lent_bits space at bytes count) → lent_bits space at bytes n ≡ take n (lent_bits space at bytes count)
   unfolding lent_bits
   cut_lent n h =
-      let e : min n (space (length bytes)) ≡ n = omega arith in
-      ap (first (at bytes)) e ∙ sym (take_first (at bytes) (min count (space (length bytes))) n h)
+      let e : min n (space (length bytes)) ≡ n = omega (arith, length_lent) in
+      ap (first (at bytes)) e ∙ sym (take_first (at bytes) (min count (space (length bytes))) n (omega (arith, length_lent)))
 
   -- one more bit is written, at the count
-  pub put_lent : (past : List ℕ → List ℕ) (b : Bool) (after : List ℕ) (n : ℕ) → n ≡ min count (space (length bytes)) → n < space (length bytes)
+  pub put_lent : (past : List ℕ → List ℕ) (b : Bool) (after : List ℕ) (n : ℕ) → n ≡ length (lent_bits space at bytes count) → n < space (length bytes)
       → length after ≡ length bytes → Written space at past bytes n b after → lent_bits space at after (n + 1) ≡ lent_bits space at bytes count ++ b ∷ []
   unfolding lent_bits
   put_lent past b after n e h same w =
       let m : min (n + 1) (space (length after)) ≡ n + 1 = rw same (omega arith) in
       ap (first (at after)) m ∙ first_more (at after) n
-      ∙ rw (w.here h, sym e) (ap (λ xs. xs ++ b ∷ []) (first_same (at after) (at bytes) n (λ i l. w.elsewhere i (λ q. absurd (omega arith)))))
+      ∙ rw (w.here h, sym (e ∙ length_lent)) (ap (λ xs. xs ++ b ∷ []) (first_same (at after) (at bytes) n (λ i l. w.elsewhere i (λ q. absurd (omega arith)))))
 
   -- what the host learns of its bytes: the first ones of their bits are the shelf's
   pub lent_first : (bits : List Bool) → lent_bits space at bytes count ≡ bits → first (at bytes) (length bits) ≡ bits

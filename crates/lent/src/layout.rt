@@ -3,8 +3,6 @@ ghost use Rattle.bits.specs.Bits.{Told};
 ghost use Rattle.lent.specs.Layouts.{lent_bits, packed_space, packed_at, packed_past, digit_space, digit_at, digit_of_bit, digit_past, Written, byte_with_bit, bit_in};
 ghost use Rattle.std.proofs.Common.{rules};
 
-use bits::source::Answer;
-
 // How bits lie in bytes.
 pub trait Layout: Copy {
     // The room of so many bytes, in bits.
@@ -37,13 +35,13 @@ pub fn held<L: Layout>(bytes: usize, count: usize) -> usize
 }
 
 // The bit at an index, of so many counted.
-pub fn ask<L: Layout>(bytes: &[u8], count: usize, index: usize) -> Answer
+pub fn ask<L: Layout>(bytes: &[u8], count: usize, index: usize) -> Option<bool>
     ensures { Told (lent_bits L.Layout.space L.Layout.at bytes.now count) index result }
 {
     if index >= held::<L>(bytes.len(), count) {
-        return Answer::Ended;
+        return None;
     }
-    Answer::Bit(L::get(bytes, index))
+    Some(L::get(bytes, index))
 }
 
 // Eight bits to a byte, the highest first.
@@ -84,10 +82,9 @@ impl Layout for Packed {
     }
 
     fn get(bytes: &[u8], index: usize) -> bool {
-        match bytes.get(index / 8) {
-            Some(byte) => bit_of(*byte, 7 - index % 8),
-            None => false,
-        }
+        bytes
+            .get(index / 8)
+            .is_some_and(|byte| bit_of(*byte, 7 - index % 8))
     }
 
     fn set(bytes: &mut [u8], index: usize, bit: bool) {
@@ -106,7 +103,7 @@ pub struct Digits;
 fn digit_of(bit: bool) -> u8
     ensures { result ≡ digit_of_bit bit }
 {
-    if bit { b'1' } else { b'0' }
+    b'0' + u8::from(bit)
 }
 
 impl Layout for Digits {
@@ -123,10 +120,7 @@ impl Layout for Digits {
     }
 
     fn get(bytes: &[u8], index: usize) -> bool {
-        match bytes.get(index) {
-            Some(byte) => *byte == b'1',
-            None => false,
-        }
+        bytes.get(index) == Some(&b'1')
     }
 
     fn set(bytes: &mut [u8], index: usize, bit: bool) {

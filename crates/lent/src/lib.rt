@@ -10,3 +10,4 @@
 pub mod byte_shelf;
 pub mod byte_source;
 pub mod layout;
+pub mod lent_bits;

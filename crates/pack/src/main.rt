@@ -17,15 +17,13 @@ fn main(rt: HostRuntime) -> io::Result<()> {
     let mut bytes = vec![in rt.alloc(); 0u8; PACKED_MOST]?;
     match pack_into(&text, &mut bytes) {
         Ok(count) => {
-            let filled = count.div_ceil(8).min(bytes.len());
-            let shown = hex(rt.alloc(), &bytes[0..filled])?;
+            bytes.truncate(count.div_ceil(8));
+            let shown = hex(rt.alloc(), &bytes)?;
             println!(rt; "{count} bits:{shown}")
         }
         Err(PackFault::Text(fault)) => {
             let refusal = fault.refusal();
-            let number = refusal.number;
-            let place = refusal.place;
-            println!(rt; "refused {number} at {place}")
+            println!(rt; "{refusal}")
         }
         Err(PackFault::Shelf(_)) => println!(rt; "no room"),
     }

@@ -1,7 +1,8 @@
 -- What the host learns of its bytes after a shelf over them was packed.
 use Rattle.std.proofs.Common.{◌≡◌, ℕ, List, [], ◌++◌, length, IfErr, Ok, Err, Result, ap, ◌∙◌, arith}
 use Rattle.lent.specs.Layouts.{first, lent_bits, packed_space, packed_at, packed_past}
-use Rattle.lent.specs.declared.byte_shelf.ByteShelf.{ByteShelf}
+use Rattle.lent.specs.declared.lent_bits.LentBits.{LentBits}
+use Rattle.std.specs.Borrow.{MutBor}
 use Rattle.lent.specs.declared.layout.Packed.{Packed}
 use Rattle.lent.proofs.Firsts.{lent_first, lent_none}
 use Rattle.packing.specs.Packs.{PackedBy, PackedInto}
@@ -9,7 +10,7 @@ use Rattle.packing.specs.Texts.{bits_of}
 use Rattle.packing.specs.declared.fault.PackFault.{PackFault}
 use Rattle.packing.specs.declared.fault.PackFault.TheVariants.{Text, Shelf}
 
-module _ (text before after : List ℕ) (start end : ByteShelf Packed)
+module _ (text before after : List ℕ) (start end : LentBits (MutBor (List ℕ)) Packed)
     (lent : start.bytes.now ≡ before) (empty : start.count ≡ 0)
     (stands : (start.bytes.ghost_name ≡ end.bytes.ghost_name) × (packed_past end.bytes.now ≡ packed_past start.bytes.now))
     (back : start.bytes.ghost_name ≡ end.bytes.ghost_name → after ≡ end.bytes.now) where

@@ -19,8 +19,7 @@ impl Fault for TextFault {
 
     fn refusal(&self) -> Refusal {
         match self {
-            TextFault::TooLong => Refusal::new(21, 0),
-            TextFault::NoDigit => Refusal::new(21, 0),
+            TextFault::TooLong | TextFault::NoDigit => Refusal::new(21, 0),
         }
     }
 }

@@ -21,19 +21,14 @@ fn digits_of(text: &[u8]) -> &[u8]
 fn is_digit(byte: u8) -> bool
     ensures { result ≡ is_digit_byte byte }
 {
-    byte == b'0' || byte == b'1'
+    matches!(byte, b'0' | b'1')
 }
 
 // Whether every byte is a digit.
 fn all_digits(bytes: &[u8]) -> bool
     ensures { result ≡ only_digits bytes.now }
 {
-    for byte in bytes {
-        if !is_digit(*byte) {
-            return false;
-        }
-    }
-    true
+    bytes.iter().all(|byte| is_digit(*byte))
 }
 
 // A text as a source of its digits.

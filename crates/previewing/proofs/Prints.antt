@@ -24,12 +24,13 @@ unfolding shown_side
 side_outcome k bits s = cond-true _ _ _ (and_from _ _ (le-leb 1 k s.0) (le-leb k 6 s.1))
 
 -- a table if it is heard,
-pub side_heard : {S : Type 0} (bytes : S → List ℕ) (j k : ℕ) (bits : List Bool) (heard numbers : List ℤ) (r : Result S PreviewFault) → j ≡ k → SideExponent k
-    → previewed middle j bits ≡ Ok heard → numbers ≡ heard → MatchResult r (λ lines. bytes lines ≡ shown_table j numbers) (λ fault. fault ≡ NoMemory)
+pub side_heard : {S : Type 0} (bytes : S → List ℕ) (i j k : ℕ) (bits : List Bool) (heard numbers : List ℤ) (r : Result S PreviewFault) → i ≡ k → j ≡ k → SideExponent k
+    → previewed middle i bits ≡ Ok heard → numbers ≡ heard → MatchResult r (λ lines. bytes lines ≡ shown_table j numbers) (λ fault. fault ≡ NoMemory)
     → MatchResult r (λ lines. bytes lines ≡ shown_side k bits) (ToldBy (shown_side k bits))
-side_heard bytes j k bits heard numbers (Ok lines) e s h n w =
-    w ∙ ap (shown_table j) n ∙ ap (shown_outcome j) (sym h) ∙ ap (λ (i : ℕ). shown_outcome i (previewed middle i bits)) e ∙ sym (side_outcome k bits s)
-side_heard bytes j k bits heard numbers (Err fault) e s h n w = rw w tt
+side_heard bytes i j k bits heard numbers (Ok lines) e f s h n w =
+    let outcome = ap (λ (m : ℕ). previewed middle m bits) (sym e) ∙ h in
+    w ∙ ap (shown_table j) n ∙ ap (λ (m : ℕ). shown_table m heard) f ∙ ap (shown_outcome k) (sym outcome) ∙ sym (side_outcome k bits s)
+side_heard bytes i j k bits heard numbers (Err fault) e f s h n w = rw w tt
 
 -- or else the stream's fault.
 pub side_unheard : (j k : ℕ) (bits : List Bool) (fault : PreviewFault) → j ≡ k → SideExponent k → Unheard (previewed middle j bits) fault

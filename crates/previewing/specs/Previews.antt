@@ -1,8 +1,9 @@
 -- What the previewing program prints of a text. Checks run in this order: the text, the header's length, the side, and then those of a preview.
-use Rattle.std.specs.Prelude.{ℕ, Bool, cond, ◌&&◌, List, [], ◌∷◌, ◌++◌, length, take, ℤ, Ok, Err, codes, decimal, Result, nat_le, nat_lt}
+use Rattle.std.specs.Prelude.{ℕ, Bool, cond, ◌&&◌, List, [], ◌∷◌, ◌++◌, length, take, ℤ, Ok, Err, Result, nat_le, nat_lt}
 use Rattle.packing.specs.Faults.{text_refusal}
 use Rattle.packing.specs.Texts.{only_digits, digits_in, bits_of}
 use Rattle.packing.specs.declared.fault.TextFault.TheVariants.{TooLong, NoDigit}
+use Rattle.refusal.specs.Refusals.{refusal_text}
 use Rattle.refusal.specs.declared.Refusal.{Refusal}
 use Rattle.showing.specs.Shown.{shown_table}
 use Rattle.slots.specs.Faults.{slot_refusal}
@@ -13,9 +14,9 @@ use Rattle.stream.specs.Reading.{spells, previewed}
 use Rattle.stream.specs.declared.fault.StreamFault.{StreamFault}
 use Rattle.stream.specs.declared.fault.StreamFault.TheVariants.{HeaderCut}
 
--- The line that tells a refusal: its number and its place.
+-- The line that tells a refusal.
 unfoldable pub line_of_refusal : Refusal → List ℕ
-line_of_refusal r = codes "refused " ++ (decimal r.number ++ (codes " at " ++ (decimal r.place ++ 10 ∷ [])))
+line_of_refusal r = refusal_text r ++ 10 ∷ []
 
 -- What a preview came to: a table of 2 ^ k rows, or the stream's fault.
 abbrev pub shown_outcome : ℕ → Result (List ℤ) StreamFault → List ℕ

@@ -3,7 +3,7 @@ ghost use Rattle.previewing.specs.declared.fault.PreviewFault.TheVariants.{Text,
 ghost use Rattle.slots.specs.declared.fault.SlotFault.TheVariants.{Stream};
 
 use packing::fault::TextFault;
-use slots::fault::SlotFault;
+use slots::fault::{Refused, SlotFault};
 use std::alloc::{AllocError, AllocFailed};
 use stream::fault::StreamFault;
 
@@ -28,6 +28,14 @@ impl From<SlotFault> for PreviewFault {
 
     fn from(fault: SlotFault) -> Self {
         PreviewFault::Slot(fault)
+    }
+}
+
+impl<T: Drop> From<Refused<T>> for PreviewFault {
+    ghost from_gives = { λ refused r. r ≡ Slot refused.fault };
+
+    fn from(refused: Refused<T>) -> Self {
+        PreviewFault::Slot(refused.fault)
     }
 }
 

@@ -18,57 +18,19 @@ use std::alloc::{AllocError, Global};
 // The places of the largest table.
 const PLACES_MOST: usize = 4_096;
 
-// Every number that a slot has heard, in scan order.
-fn numbers_heard(
-    heap: Global,
-    side: Side,
-    heard: &Heard,
-    table: &[i16],
-    cells: &[Cell],
-    found: &[u16],
-) -> Result<Vec<i32>, PreviewFault>
-    requires { (side.exponent ≡ heard.now.side.exponent) × (Suffices side.exponent table.now cells.now found.now) }
-    ensures { MatchResult result (λ v. v.items ≡ cell_numbers side.exponent cells.now) (λ fault. fault ≡ NoMemory) }
-{
-    let mut numbers = Vec::new(heap);
-    for place in 0..side.places() {
-        let number = heard.read::<Surface>(place, table, cells, found)?;
-        numbers.push(number)?;
-    }
-    Ok(numbers)
-}
-
-// The numbers that a preview hears of a source, in this memory.
-fn hear_in<S: Source>(
-    heap: Global,
-    side: Side,
-    blank: Blank,
-    source: &S,
-    table: &[i16],
-    cells: &mut [Cell],
-    found: &mut [u16],
-) -> Result<Vec<i32>, PreviewFault>
-    requires { (blank.side.exponent ≡ side.exponent) × (Suffices side.exponent table.now cells.old found.old) }
-    ensures { MatchResult result (λ v. (previewed middle side.exponent (S.Source.bits source.now) ≡ Ok v.items) × (length v.items ≡ 4 ^ side.exponent)) (Unheard (previewed middle side.exponent (S.Source.bits source.now))) }
-{
-    match blank.preview::<_, Surface>(source, table, cells, found) {
-        Ok(heard) => numbers_heard(heap, side, &heard, table, cells, found),
-        Err(refused) => Err(PreviewFault::Slot(refused.1)),
-    }
-}
-
 // What is lent to a slot: memory for the largest table.
 #[derive(Drop)]
 struct Memory {
     table: Vec<i16>,
     cells: Vec<Cell>,
     found: Vec<u16>,
+    ghost rows: { vec_len table ≡ 4096 },
+    ghost places: { vec_len cells ≡ 4096 },
+    ghost items: { vec_len found ≡ 4096 },
 }
 
 impl Memory {
-    fn new(heap: Global) -> Result<Memory, AllocError>
-        ensures { IfOk result (λ memory. (vec_len memory.table ≡ 4096) × (vec_len memory.cells ≡ 4096) × (vec_len memory.found ≡ 4096)) }
-    {
+    fn new(heap: Global) -> Result<Memory, AllocError> {
         let table = vec![in heap; 0; PLACES_MOST]?;
         let cells = vec![in heap; Cell::CLEAR; PLACES_MOST]?;
         let found = vec![in heap; 0; PLACES_MOST]?;
@@ -78,26 +40,42 @@ impl Memory {
             found,
         })
     }
+
+    // Every number that a slot has heard in this memory, in scan order.
+    fn numbers(&self, heap: Global, heard: &Heard) -> Result<Vec<i32>, PreviewFault>
+        ensures { MatchResult result (λ v. v.items ≡ cell_numbers heard.now.side.exponent self.now.cells.items) (λ fault. fault ≡ NoMemory) }
+    {
+        let mut numbers = Vec::new(heap);
+        for place in 0..heard.side().places() {
+            let number = heard.read::<Surface>(place, &self.table, &self.cells, &self.found)?;
+            numbers.push(number)?;
+        }
+        Ok(numbers)
+    }
+
+    // The numbers that a preview hears of a source, in scan order.
+    fn hear<S: Source>(
+        &mut self,
+        heap: Global,
+        blank: Blank,
+        source: &S,
+    ) -> Result<Vec<i32>, PreviewFault>
+        ensures { MatchResult result (λ v. (previewed middle blank.side.exponent (S.Source.bits source.now) ≡ Ok v.items) × (length v.items ≡ 4 ^ blank.side.exponent)) (Unheard (previewed middle blank.side.exponent (S.Source.bits source.now))) }
+    {
+        let heard = blank.preview::<_, Surface>(
+            source,
+            &self.table,
+            &mut self.cells,
+            &mut self.found,
+        )?;
+        self.numbers(heap, &heard)
+    }
 }
 
-// The numbers that a preview hears of a source, in scan order.
-pub fn hear<S: Source>(
-    heap: Global,
-    side: Side,
-    blank: Blank,
-    source: &S,
-) -> Result<Vec<i32>, PreviewFault>
-    requires { blank.side.exponent ≡ side.exponent }
-    ensures { MatchResult result (λ v. (previewed middle side.exponent (S.Source.bits source.now) ≡ Ok v.items) × (length v.items ≡ 4 ^ side.exponent)) (Unheard (previewed middle side.exponent (S.Source.bits source.now))) }
+// The numbers that a preview hears of a source in memory of its own, in scan order.
+pub fn hear<S: Source>(heap: Global, blank: Blank, source: &S) -> Result<Vec<i32>, PreviewFault>
+    ensures { MatchResult result (λ v. (previewed middle blank.side.exponent (S.Source.bits source.now) ≡ Ok v.items) × (length v.items ≡ 4 ^ blank.side.exponent)) (Unheard (previewed middle blank.side.exponent (S.Source.bits source.now))) }
 {
     let mut memory = Memory::new(heap)?;
-    hear_in(
-        heap,
-        side,
-        blank,
-        source,
-        &memory.table,
-        &mut memory.cells,
-        &mut memory.found,
-    )
+    memory.hear(heap, blank, source)
 }

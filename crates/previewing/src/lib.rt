@@ -10,5 +10,3 @@ mod header;
 mod hearing;
 mod lines;
 pub mod preview;
-#[cfg(test)]
-mod tests;

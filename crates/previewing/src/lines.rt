@@ -8,7 +8,5 @@ use std::alloc::{AllocError, Global};
 pub fn refusal_line(heap: Global, refusal: Refusal) -> Result<String, AllocError>
     ensures { IfOk result (λ line. string_bytes line ≡ line_of_refusal refusal) }
 {
-    let number = refusal.number;
-    let place = refusal.place;
-    format!(in heap; "refused {number} at {place}\n")
+    format!(in heap; "{refusal}\n")
 }

@@ -35,7 +35,7 @@ fn side_lines<S: Source>(heap: Global, exponent: u32, source: &S) -> Result<Stri
 {
     let blank = Blank::new(exponent)?;
     let side = blank.side();
-    let numbers = hear(heap, side, blank, source)?;
+    let numbers = hear(heap, blank, source)?;
     table_lines(heap, side, &numbers)
 }
 

@@ -1,5 +1,5 @@
 -- Numbered refusals: which layer a number belongs to, and the checks of a call in their order.
-use Rattle.std.specs.Prelude.{ℕ, Bool, true, false, cond, ◌&&◌, List, [], ◌∷◌, Some, None, Option, ◌==◌, nat_le}
+use Rattle.std.specs.Prelude.{ℕ, Bool, true, false, cond, ◌&&◌, List, [], ◌∷◌, ◌++◌, Some, None, Option, codes, decimal, ◌==◌, nat_le}
 use Rattle.refusal.specs.declared.Layer.{Layer}
 use Rattle.refusal.specs.declared.Layer.TheVariants.{Slot, Stream, Shelf, Bank, Text}
 use Rattle.refusal.specs.declared.Refusal.{Refusal}
@@ -15,6 +15,10 @@ layer_of number =
 -- The refusal by this number at this place. Its layer follows from its number.
 abbrev pub refusal_by : (number place : ℕ) → Refusal
 refusal_by number place = record { number = number; layer = layer_of number; place = place }
+
+-- What a refusal is printed as: its number and its place, in decimal.
+abbrev pub refusal_text : (refusal : Refusal) → List ℕ
+refusal_text refusal = codes "refused " ++ (decimal refusal.number ++ (codes " at " ++ decimal refusal.place))
 
 -- A check of a call: the refusal that it comes to, or none where its rule is kept.
 abbrev pub Check : Type 0

@@ -3,12 +3,14 @@
 // Every layer has an enum of its own for what it refuses, and one definition in its specs/ that gives each case its number, its
 // layer and its place. An upper layer's fault holds the lower layer's entire, so nothing is lost on the way up through `?`. This
 // crate has what they share: the layers, the record of number, layer and place, and the trait by which any fault tells its own.
-// Promised: a refusal made from its number and place has the layer that the number belongs to.
+// Promised: a refusal made from its number and place has the layer that the number belongs to; it is printed as `refused n at b`.
 #![tactic(auto)]
 
-ghost use Rattle.std.specs.Prelude.{◌≡◌};
-ghost use Rattle.refusal.specs.Refusals.{refusal_by};
+ghost use Rattle.std.specs.Prelude.{◌≡◌, Some};
+ghost use Rattle.refusal.specs.Refusals.{refusal_by, refusal_text};
 ghost use Rattle.refusal.specs.declared.Refusal.{Refusal};
+
+use std::fmt;
 
 // The layer whose rule was broken.
 #[derive(Clone, Copy, PartialEq, Eq, Debug)]
@@ -46,6 +48,17 @@ impl Refusal {
             layer,
             place,
         }
+    }
+}
+
+// Its number and its place, as the programs tell it.
+impl fmt::Display for Refusal {
+    ghost output = { λ refusal. Some (refusal_text refusal) };
+
+    fn fmt<W: fmt::Write>(&self, f: &mut fmt::Formatter<W>) -> fmt::Result {
+        let number = self.number;
+        let place = self.place;
+        write!(f, "refused {number} at {place}")
     }
 }
 

@@ -27,7 +27,7 @@ fn row_major(place: usize) -> usize
     requires { place < 4096 }
     ensures { result ≡ 64 * row_of place + column_of place }
 {
-    SCAN[place] as usize
+    usize::from(SCAN[place])
 }
 
 // A number of six bits with its bits moved apart.
@@ -35,7 +35,7 @@ fn spread_out(number: usize) -> usize
     requires { number < 64 }
     ensures { result ≡ spread 6 number }
 {
-    SPREAD[number] as usize
+    usize::from(SPREAD[number])
 }
 
 // 64 times the row and the column of each place, in scan order.

@@ -1,7 +1,7 @@
 ghost use Rattle.std.specs.Prelude.{◌≡◌, ◌^◌, ◌<◌, ◌≤◌, ◌⊎◌, MatchOption};
 
 // The side of a square table: 2, 4, 8, 16, 32 or 64 rows of as many places.
-#[derive(Clone, Copy)]
+#[derive(Clone, Copy, PartialEq, Eq, Debug)]
 pub struct Side {
     exponent: u32,
     ghost low: { 1 ≤ exponent },
@@ -13,10 +13,10 @@ impl Side {
     pub fn new(exponent: u32) -> Option<Side>
         ensures { MatchOption result ((exponent < 1) ⊎ (6 < exponent)) (λ side. side.exponent ≡ exponent) }
     {
-        if exponent < 1 || exponent > 6 {
-            return None;
+        match exponent {
+            1..=6 => Some(Side { exponent }),
+            _ => None,
         }
-        Some(Side { exponent })
     }
 
     pub fn exponent(self) -> u32
@@ -29,14 +29,7 @@ impl Side {
     pub fn length(self) -> usize
         ensures { result ≡ 2 ^ self.exponent }
     {
-        match self.exponent {
-            1 => 2,
-            2 => 4,
-            3 => 8,
-            4 => 16,
-            5 => 32,
-            _ => 64,
-        }
+        1 << self.exponent
     }
 
     // How many places the table has.
@@ -44,13 +37,6 @@ impl Side {
         ensures count { result ≡ 4 ^ self.exponent }
         ensures most { result ≤ 4096 }
     {
-        match self.exponent {
-            1 => 4,
-            2 => 16,
-            3 => 64,
-            4 => 256,
-            5 => 1024,
-            _ => 4096,
-        }
+        1 << (2 * self.exponent)
     }
 }

@@ -22,10 +22,7 @@ fn places_at(rt: HostRuntime) {
 fn sides(rt: HostRuntime) -> Result<(), Fail> {
     assert!(rt; Side::new(0).is_none());
     assert!(rt; Side::new(7).is_none());
-    let Some(side) = Side::new(3) else {
-        assert!(rt; false);
-        return Ok(());
-    };
+    let side = Side::new(3).ok_or("no side")?;
     assert_eq!(rt; side.exponent(), 3);
     assert_eq!(rt; side.length(), 8);
     assert_eq!(rt; side.places(), 64);
@@ -34,13 +31,9 @@ fn sides(rt: HostRuntime) -> Result<(), Fail> {
 
 #[test]
 fn smallest_tree(rt: HostRuntime) -> Result<(), Fail> {
-    let Some(side) = Side::new(1) else {
-        assert!(rt; false);
-        return Ok(());
-    };
+    let side = Side::new(1).ok_or("no side")?;
     assert!(rt; side.has_children(0) && !side.has_children(1) && !side.has_children(3));
-    let children = side.children(0);
-    assert!(rt; children.start == 1 && children.end == 4);
+    assert_eq!(rt; side.children(0), 1..4);
     assert!(rt; side.children(1).is_empty());
     assert_eq!(rt; side.parent(0), None);
     assert_eq!(rt; side.parent(3), Some(0));
@@ -50,13 +43,9 @@ fn smallest_tree(rt: HostRuntime) -> Result<(), Fail> {
 
 #[test]
 fn largest_tree(rt: HostRuntime) -> Result<(), Fail> {
-    let Some(side) = Side::new(6) else {
-        assert!(rt; false);
-        return Ok(());
-    };
+    let side = Side::new(6).ok_or("no side")?;
     assert!(rt; side.has_children(1023) && !side.has_children(1024));
-    let children = side.children(1023);
-    assert!(rt; children.start == 4092 && children.end == 4096);
+    assert_eq!(rt; side.children(1023), 4092..4096);
     assert!(rt; side.children(1024).is_empty());
     assert_eq!(rt; side.parent(4095), Some(1023));
     assert_eq!(rt; side.parent(4096), None);

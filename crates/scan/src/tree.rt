@@ -17,11 +17,10 @@ impl Side {
     pub fn parent(self, place: usize) -> Option<usize>
         ensures { MatchOption result ((p : ℕ) → Child self.exponent p place → ⊥) (λ p. Child self.exponent p place) }
     {
-        let places = self.places();
-        if 0 < place && place < places {
-            return Some(place / 4);
+        if !(1..self.places()).contains(&place) {
+            return None;
         }
-        None
+        Some(place / 4)
     }
 
     // The children of a place, none or three or four of them.

@@ -6,14 +6,14 @@ use Rattle.std.proofs.lemmas.List.{flat_map_more, append_assoc}
 use Rattle.std.specs.List.{range_with_len, flat_map}
 
 -- One more is written, the one counted last.
-pub written_more : {X : Type 0} (g : X → List ℕ) (f : ℕ → X) (a n m j : ℕ) (start before after : List ℕ) → a + n ≡ j → n + 1 ≡ m
-    → before ≡ start ++ flat_map g (map f (range_with_len a n)) → after ≡ before ++ g (f j) → after ≡ start ++ flat_map g (map f (range_with_len a m))
-written_more {X = X} g f a n m j start before after e s b w =
-    w ∙ rw b (flat_map_more g start (map f (range_with_len a n)) (f j) ∙ ap (λ (xs : List X). start ++ flat_map g xs) (sym (map-range_with_len_more f a n j e) ∙ ap (λ (i : ℕ). map f (range_with_len a i)) s))
+pub written_more : {X : Type 0} (g : X → List ℕ) (f : ℕ → X) (a n m j : ℕ) → a + n ≡ j → n + 1 ≡ m
+    → flat_map g (map f (range_with_len a n)) ++ g (f j) ≡ flat_map g (map f (range_with_len a m))
+written_more g f a n m j e s =
+    flat_map_more g [] (map f (range_with_len a n)) (f j)
+    ∙ ap (flat_map g) (sym (map-range_with_len_more f a n j e) ∙ ap (λ (i : ℕ). map f (range_with_len a i)) s)
 
 -- The first number, the others and the line feed make a row.
-pub row_written : (f : ℕ → ℤ) (n j : ℕ) (start first before after : List ℕ) → 1 ≤ n → j ≡ n → first ≡ start ++ shown_number (f 0)
-    → before ≡ first ++ flat_map shown_next (map f (range_with_len 1 (j - 1))) → after ≡ before ++ 10 ∷ [] → after ≡ start ++ shown_row (map f (range_with_len 0 n))
-row_written f zero j start first before after l e x b w = absurd (omega arith)
-row_written f (suc n) j start first before after l e x b w =
-    let m : j - 1 ≡ n = omega arith in w ∙ rw (b, x, m) (simp append_assoc)
+pub row_written : (f : ℕ → ℤ) (n j : ℕ) → 1 ≤ n → j ≡ n
+    → shown_number (f 0) ++ flat_map shown_next (map f (range_with_len 1 (j - 1))) ++ 10 ∷ [] ≡ shown_row (map f (range_with_len 0 n))
+row_written f zero j l e = absurd (omega arith)
+row_written f (suc n) j l e = let m : j - 1 ≡ n = omega arith in rw m (simp append_assoc)

@@ -1,7 +1,7 @@
 ghost use Rattle.std.specs.Prelude.{◌≡◌};
 ghost use Rattle.showing.specs.declared.fault.ShowFault.TheVariants.{NoMemory};
 
-use std::fmt;
+use std::alloc::AllocError;
 
 // Why a table is not shown.
 #[derive(Clone, Copy, PartialEq, Eq, Debug)]
@@ -12,10 +12,10 @@ pub enum ShowFault {
     NoMemory,
 }
 
-impl From<fmt::Error> for ShowFault {
+impl From<AllocError> for ShowFault {
     ghost from_gives = { λ _ r. r ≡ NoMemory };
 
-    fn from(_: fmt::Error) -> Self {
+    fn from(_: AllocError) -> Self {
         ShowFault::NoMemory
     }
 }

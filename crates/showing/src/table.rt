@@ -1,5 +1,5 @@
-ghost use Rattle.std.specs.Prelude.{◌≡◌, ◌^◌, ◌<◌, ◌≤◌, ◌++◌, length, string_bytes, MatchResult, OnOk};
-ghost use Rattle.showing.specs.Shown.{number_in, shown_number, shown_next, row_numbers, shown_row, shown_table};
+ghost use Rattle.std.specs.Prelude.{◌≡◌, ◌^◌, ◌<◌, ◌≤◌, length, string_bytes, Some, MatchOption, MatchResult};
+ghost use Rattle.showing.specs.Shown.{number_in, row_numbers, shown_row, shown_table};
 ghost use Rattle.showing.specs.Refused.{NotShown};
 
 use super::fault::ShowFault;
@@ -7,58 +7,75 @@ use scan::{Side, place_at};
 use std::alloc::Global;
 use std::fmt;
 
-// The number in a row and a column.
-fn number_at(side: Side, numbers: &[i32], row: usize, column: usize) -> i32
-    requires { (4 ^ side.exponent ≤ length numbers.now) × ((row < 2 ^ side.exponent) × (column < 2 ^ side.exponent)) }
-    ensures { result ≡ number_in numbers.now row column }
-{
-    let Some(place) = place_at(row, column) else {
-        unreachable()
-    };
-    numbers[place]
+// A square table of numbers in scan order.
+#[derive(Clone, Copy)]
+struct Table<'a> {
+    side: Side,
+    numbers: &'a [i32],
+    ghost full: { 4 ^ side.exponent ≤ length numbers.now },
 }
 
-// Writes a number behind the text.
-fn push_number(text: &mut String, number: i32) -> fmt::Result
-    ensures { OnOk result (string_bytes text.new ≡ string_bytes text.old ++ shown_number number) }
-{
-    write!(text, "{number}")?;
-    Ok(())
-}
-
-// Writes a space and a number behind the text.
-fn push_next(text: &mut String, number: i32) -> fmt::Result
-    ensures { OnOk result (string_bytes text.new ≡ string_bytes text.old ++ shown_next number) }
-{
-    write!(text, " {number}")?;
-    Ok(())
-}
-
-// Writes one row behind the text.
-fn push_row(text: &mut String, side: Side, numbers: &[i32], row: usize) -> fmt::Result
-    requires { (4 ^ side.exponent ≤ length numbers.now) × (row < 2 ^ side.exponent) }
-    ensures { OnOk result (string_bytes text.new ≡ string_bytes text.old ++ shown_row (row_numbers side.exponent numbers.now row)) }
-{
-    let first = number_at(side, numbers, row, 0);
-    push_number(text, first)?;
-    for column in 1..side.length() {
-        let number = number_at(side, numbers, row, column);
-        push_next(text, number)?;
+impl<'a> Table<'a> {
+    // There is none exactly if the numbers are fewer than the places.
+    fn new(side: Side, numbers: &'a [i32]) -> Option<Table<'a>>
+        ensures { MatchOption result (length numbers.now < 4 ^ side.exponent) (λ table. (table.side ≡ side) × (table.numbers.now ≡ numbers.now)) }
+    {
+        if numbers.len() < side.places() {
+            return None;
+        }
+        Some(Table { side, numbers })
     }
-    writeln!(text)?;
-    Ok(())
+}
+
+impl fmt::Display for Table<'_> {
+    ghost output = { λ table. Some (shown_table table.side.exponent table.numbers.now) };
+
+    fn fmt<W: fmt::Write>(&self, f: &mut fmt::Formatter<W>) -> fmt::Result {
+        for row in 0..self.side.length() {
+            let row = Row { table: *self, row };
+            write!(f, "{row}")?;
+        }
+        Ok(())
+    }
+}
+
+// One row of a table.
+#[derive(Clone, Copy)]
+struct Row<'a> {
+    table: Table<'a>,
+    row: usize,
+    ghost inside: { row < 2 ^ table.side.exponent },
+}
+
+impl Row<'_> {
+    // The number in a column of this row.
+    fn number(&self, column: usize) -> i32
+        requires { column < 2 ^ self.now.table.side.exponent }
+        ensures { result ≡ number_in self.now.table.numbers.now self.now.row column }
+    {
+        let Some(place) = place_at(self.row, column) else {
+            unreachable()
+        };
+        self.table.numbers[place]
+    }
+}
+
+impl fmt::Display for Row<'_> {
+    ghost output = { λ r. Some (shown_row (row_numbers r.table.side.exponent r.table.numbers.now r.row)) };
+
+    fn fmt<W: fmt::Write>(&self, f: &mut fmt::Formatter<W>) -> fmt::Result {
+        write!(f, "{}", self.number(0))?;
+        for column in 1..self.table.side.length() {
+            write!(f, " {}", self.number(column))?;
+        }
+        writeln!(f)
+    }
 }
 
 // The text of a table whose numbers are given in scan order. Numbers past the table's places are not looked at.
 pub fn show_table(heap: Global, side: Side, numbers: &[i32]) -> Result<String, ShowFault>
     ensures { MatchResult result (λ text. (4 ^ side.exponent ≤ length numbers.now) × (string_bytes text ≡ shown_table side.exponent numbers.now)) (NotShown side.exponent numbers.now) }
 {
-    if numbers.len() < side.places() {
-        return Err(ShowFault::Short);
-    }
-    let mut text = String::new(heap);
-    for row in 0..side.length() {
-        push_row(&mut text, side, numbers, row)?;
-    }
-    Ok(text)
+    let table = Table::new(side, numbers).ok_or(ShowFault::Short)?;
+    Ok(table.to_string(heap)?)
 }

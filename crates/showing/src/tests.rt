@@ -10,12 +10,9 @@ fn shows(
     numbers: &[i32],
     lines: &str,
 ) -> Result<(), Fail> {
-    let Some(side) = Side::new(exponent) else {
-        assert!(rt; false);
-        return Ok(());
-    };
+    let side = Side::new(exponent).ok_or("no side")?;
     let text = show_table(rt.alloc(), side, numbers)?;
-    assert!(rt; text.as_str() == lines);
+    assert_eq!(rt; text.as_str(), lines);
     Ok(())
 }
 
@@ -57,18 +54,8 @@ fn more_numbers_than_places(rt: HostRuntime) -> Result<(), Fail> {
 
 #[test]
 fn too_few_numbers(rt: HostRuntime) -> Result<(), Fail> {
-    let Some(side) = Side::new(1) else {
-        assert!(rt; false);
-        return Ok(());
-    };
-    match show_table(rt.alloc(), side, &[1, 2, 3]) {
-        Ok(_) => {
-            assert!(rt; false);
-            Ok(())
-        },
-        Err(fault) => {
-            assert_eq!(rt; fault, ShowFault::Short);
-            Ok(())
-        },
-    }
+    let side = Side::new(1).ok_or("no side")?;
+    let shown = show_table(rt.alloc(), side, &[1, 2, 3]);
+    assert_eq!(rt; shown.err(), Some(ShowFault::Short));
+    Ok(())
 }

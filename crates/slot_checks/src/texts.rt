@@ -30,3 +30,26 @@ fn the_eight_by_eight_table_at_32(rt: HostRuntime) -> Result<(), Fail> {
         "56 -40 56 0 0 0 0 0\n0 0 0 0 0 0 0 0\n0 0 0 0 0 0 0 0\n0 0 0 0 0 0 0 0\n0 0 0 40 0 0 0 0\n0 0 0 0 0 0 0 0\n0 0 0 0 0 0 0 0\n0 0 0 0 0 0 0 0\n",
     )
 }
+
+#[test]
+fn tables(rt: HostRuntime) -> Result<(), Fail> {
+    prints(
+        &rt,
+        b"0100101100101011\n",
+        "28 0 0 0\n0 0 0 0\n0 0 0 0\n0 0 0 0\n",
+    )?;
+    prints(
+        &rt,
+        b"010010110010101",
+        "24 0 0 0\n0 0 0 0\n0 0 0 0\n0 0 0 0\n",
+    )?;
+    prints(&rt, b"0010000", "0 0\n0 0\n")
+}
+
+#[test]
+fn refusals(rt: HostRuntime) -> Result<(), Fail> {
+    prints(&rt, b"01x", "refused 21 at 0\n")?;
+    prints(&rt, b"010", "refused 8 at 3\n")?;
+    prints(&rt, b"1110000", "refused 1 at 0\n")?;
+    prints(&rt, b"00100001", "refused 13 at 7\n")
+}

@@ -6,11 +6,11 @@ ghost use Rattle.stream.specs.Laws.{SideExponent};
 ghost use Rattle.stream.specs.Numbers.{middle};
 ghost use Rattle.stream.specs.Reading.{loaded, previewed};
 
-use super::fault::SlotFault;
+use super::fault::{Refused, SlotFault};
 use super::heard::Heard;
 use super::hearing::{hear, hear_whole};
 use super::held::Held;
-use super::memory::{suffices, write};
+use super::memory::write;
 use bits::source::Source;
 use decoder::cell::Cell;
 use entries::kind::EntryKind;
@@ -47,21 +47,20 @@ impl Blank {
         table: &mut [K::Row],
         cells: &mut [Cell],
         found: &mut [u16],
-    ) -> Result<Held, (Blank, SlotFault)>
-        ensures takes { Takes (Suffices self.side.exponent table.old cells.old found.old) (loaded middle self.side.exponent (S.Source.bits source.now)) (row_numbers (λ row. K.EntryKind.number (K.EntryKind.entry row)) self.side.exponent table.new) result }
-        ensures keeps { MatchResult result (λ held. held.side ≡ self.side) (λ e. (e.0 ≡ self) × (table.new ≡ table.old)) }
+    ) -> Result<Held, Refused<Blank>>
+        ensures takes { Takes (Suffices self.side.exponent table.old cells.old found.old) (loaded middle self.side.exponent (S.Source.bits source.now)) (row_numbers K.EntryKind.number K.EntryKind.entry self.side.exponent table.new) result }
+        ensures keeps { MatchResult result (λ held. held.side ≡ self.side) (λ refused. (refused.slot ≡ self) × (table.new ≡ table.old)) }
         ensures table_stands { StandPast (4 ^ self.side.exponent) table.old table.new }
         ensures cells_stand { StandPast (4 ^ self.side.exponent) cells.old cells.new }
         ensures found_stands { StandPast (4 ^ self.side.exponent) found.old found.new }
     {
-        if !suffices(self.side, table, cells, found) {
-            return Err((self, SlotFault::ShortMemory));
-        }
-        if let Err(fault) = hear_whole(self.side, source, cells, found) {
-            return Err((self, SlotFault::Stream(fault)));
-        }
-        write::<K>(self.side, table, cells);
-        Ok(Held { side: self.side })
+        let side = self.side;
+        hear_whole(side, source, table, cells, found).map_err(|fault| Refused {
+            slot: self,
+            fault,
+        })?;
+        write::<K>(side, table, cells);
+        Ok(Held { side })
     }
 
     // Hears any front of a stream, as far as its whole symbols go. The table is kept.
@@ -71,18 +70,14 @@ impl Blank {
         table: &[K::Row],
         cells: &mut [Cell],
         found: &mut [u16],
-    ) -> Result<Heard, (Blank, SlotFault)>
+    ) -> Result<Heard, Refused<Blank>>
         ensures takes { Takes (Suffices self.side.exponent table.now cells.old found.old) (previewed middle self.side.exponent (S.Source.bits source.now)) (cell_numbers self.side.exponent cells.new) result }
-        ensures keeps { MatchResult result (λ heard. heard.side ≡ self.side) (λ e. e.0 ≡ self) }
+        ensures keeps { MatchResult result (λ heard. heard.side ≡ self.side) (λ refused. refused.slot ≡ self) }
         ensures cells_stand { StandPast (4 ^ self.side.exponent) cells.old cells.new }
         ensures found_stands { StandPast (4 ^ self.side.exponent) found.old found.new }
     {
-        if !suffices(self.side, table, cells, found) {
-            return Err((self, SlotFault::ShortMemory));
-        }
-        if let Err(fault) = hear(self.side, source, cells, found) {
-            return Err((self, SlotFault::Stream(fault)));
-        }
-        Ok(Heard { side: self.side })
+        let side = self.side;
+        hear(side, source, table, cells, found).map_err(|fault| Refused { slot: self, fault })?;
+        Ok(Heard { side })
     }
 }

@@ -2,7 +2,7 @@ ghost use Rattle.std.specs.Prelude.{◌≡◌};
 ghost use Rattle.slots.specs.Faults.{slot_refusal};
 ghost use Rattle.slots.specs.declared.fault.SlotFault.TheVariants.{Stream};
 
-use refusal::{Fault, Layer, Refusal};
+use refusal::{Fault, Refusal};
 use stream::fault::StreamFault;
 
 // Why a call on a slot is refused.
@@ -30,16 +30,26 @@ impl Fault for SlotFault {
     ghost meaning = { slot_refusal };
 
     fn refusal(&self) -> Refusal {
-        let number = match self {
-            SlotFault::NoSide => 1,
-            SlotFault::ShortMemory => 2,
-            SlotFault::NoPlace => 4,
-            SlotFault::Stream(fault) => return fault.refusal(),
-        };
-        Refusal {
-            number,
-            layer: Layer::Slot,
-            place: 0,
+        match self {
+            SlotFault::NoSide => Refusal::new(1, 0),
+            SlotFault::ShortMemory => Refusal::new(2, 0),
+            SlotFault::NoPlace => Refusal::new(4, 0),
+            SlotFault::Stream(fault) => fault.refusal(),
         }
+    }
+}
+
+// A refused call: the slot that it took, handed back as it was, and why.
+#[derive(Drop)]
+pub struct Refused<T> {
+    pub slot: T,
+    pub fault: SlotFault,
+}
+
+impl<T: Drop> From<Refused<T>> for SlotFault {
+    ghost from_gives = { λ refused r. r ≡ refused.fault };
+
+    fn from(refused: Refused<T>) -> Self {
+        refused.fault
     }
 }

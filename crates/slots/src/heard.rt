@@ -2,9 +2,9 @@ ghost use Rattle.std.specs.Prelude.{◌≡◌, ◌^◌, MatchResult};
 ghost use Rattle.decoder.specs.Cells.{cell_numbers, StandPast};
 ghost use Rattle.slots.specs.Slots.{row_numbers, Suffices, Passes, Reads};
 
-use super::fault::SlotFault;
+use super::fault::{Refused, SlotFault};
 use super::held::Held;
-use super::memory::{suffices, write};
+use super::memory::{check_memory, check_place, write};
 use decoder::cell::Cell;
 use entries::kind::EntryKind;
 use scan::Side;
@@ -16,6 +16,13 @@ pub struct Heard {
 }
 
 impl Heard {
+    // The side of the table that is heard.
+    pub fn side(&self) -> Side
+        ensures { result ≡ self.now.side }
+    {
+        self.side
+    }
+
     // The number heard at a place.
     pub fn read<K: EntryKind>(
         &self,
@@ -26,12 +33,7 @@ impl Heard {
     ) -> Result<i32, SlotFault>
         ensures { Reads (Suffices self.now.side.exponent table.now cells.now found.now) self.now.side.exponent (cell_numbers self.now.side.exponent cells.now) place result }
     {
-        if !suffices(self.side, table, cells, found) {
-            return Err(SlotFault::ShortMemory);
-        }
-        if place >= self.side.places() {
-            return Err(SlotFault::NoPlace);
-        }
+        check_place(self.side, place, table, cells, found)?;
         Ok(cells[place].number())
     }
 
@@ -41,15 +43,14 @@ impl Heard {
         table: &mut [K::Row],
         cells: &[Cell],
         found: &[u16],
-    ) -> Result<Held, (Heard, SlotFault)>
-        ensures settles { Passes (Suffices self.side.exponent table.old cells.now found.now) (row_numbers (λ row. K.EntryKind.number (K.EntryKind.entry row)) self.side.exponent table.new ≡ cell_numbers self.side.exponent cells.now) result }
-        ensures keeps { MatchResult result (λ held. held.side ≡ self.side) (λ e. (e.0 ≡ self) × (table.new ≡ table.old)) }
+    ) -> Result<Held, Refused<Heard>>
+        ensures settles { Passes (Suffices self.side.exponent table.old cells.now found.now) (row_numbers K.EntryKind.number K.EntryKind.entry self.side.exponent table.new ≡ cell_numbers self.side.exponent cells.now) result }
+        ensures keeps { MatchResult result (λ held. held.side ≡ self.side) (λ refused. (refused.slot ≡ self) × (table.new ≡ table.old)) }
         ensures table_stands { StandPast (4 ^ self.side.exponent) table.old table.new }
     {
-        if !suffices(self.side, table, cells, found) {
-            return Err((self, SlotFault::ShortMemory));
-        }
-        write::<K>(self.side, table, cells);
-        Ok(Held { side: self.side })
+        let side = self.side;
+        check_memory(side, table, cells, found).map_err(|fault| Refused { slot: self, fault })?;
+        write::<K>(side, table, cells);
+        Ok(Held { side })
     }
 }

@@ -1,48 +1,49 @@
-ghost use Rattle.std.specs.Prelude.{◌^◌, ◌≤◌, length};
+ghost use Rattle.std.specs.Prelude.{◌≡◌, ◌^◌, Ok, Err, MatchResult};
 ghost use Rattle.decoder.specs.Cells.{cell_numbers, StandPast};
-ghost use Rattle.slots.specs.Slots.{ComesTo};
+ghost use Rattle.slots.specs.Slots.{Hears, Suffices, TurnedAway};
 ghost use Rattle.stream.specs.Numbers.{middle};
-ghost use Rattle.stream.specs.Reading.{loaded, previewed};
+ghost use Rattle.stream.specs.Reading.{loaded, reading};
 
+use super::fault::SlotFault;
+use super::memory::check_memory;
 use bits::source::Source;
 use decoder::cell::Cell;
-use decoder::decode::decode;
+use decoder::decode::{Decoded, decode};
 use scan::Side;
 use stream::fault::StreamFault;
 
-// Hears a source as far as its whole symbols go. The cells then tell its numbers.
-pub fn hear<S: Source>(
+// Hears a source as far as its whole symbols go; short memory is refused first. The cells then tell its numbers.
+pub fn hear<S: Source, R>(
     side: Side,
     source: &S,
+    table: &[R],
     cells: &mut [Cell],
     found: &mut [u16],
-) -> Result<(), StreamFault>
-    requires { (4 ^ side.exponent ≤ length cells.old) × (4 ^ side.exponent ≤ length found.old) }
-    ensures comes { ComesTo (previewed middle side.exponent (S.Source.bits source.now)) (cell_numbers side.exponent cells.new) result }
+) -> Result<Decoded, SlotFault>
+    ensures hears { Hears (Suffices side.exponent table.now cells.old found.old) side.exponent (reading side.exponent (S.Source.bits source.now)) cells.new result }
     ensures cells_stand { StandPast (4 ^ side.exponent) cells.old cells.new }
     ensures found_stands { StandPast (4 ^ side.exponent) found.old found.new }
 {
-    decode(side, source, cells, found)?;
-    Ok(())
+    check_memory(side, table, cells, found)?;
+    Ok(decode(side, source, cells, found)?)
 }
 
-// Hears a source that is to be a whole stream. The cells then tell its numbers.
-pub fn hear_whole<S: Source>(
+// Hears a source likewise, and refuses one that is no whole stream.
+pub fn hear_whole<S: Source, R>(
     side: Side,
     source: &S,
+    table: &[R],
     cells: &mut [Cell],
     found: &mut [u16],
-) -> Result<(), StreamFault>
-    requires { (4 ^ side.exponent ≤ length cells.old) × (4 ^ side.exponent ≤ length found.old) }
-    ensures comes { ComesTo (loaded middle side.exponent (S.Source.bits source.now)) (cell_numbers side.exponent cells.new) result }
+) -> Result<(), SlotFault>
+    ensures hears { let enough = Suffices side.exponent table.now cells.old found.old in let outcome = loaded middle side.exponent (S.Source.bits source.now) in MatchResult result (λ _. enough × (outcome ≡ Ok (cell_numbers side.exponent cells.new))) (TurnedAway enough (λ fault. outcome ≡ Err fault)) }
     ensures cells_stand { StandPast (4 ^ side.exponent) cells.old cells.new }
     ensures found_stands { StandPast (4 ^ side.exponent) found.old found.new }
 {
-    let decoded = decode(side, source, cells, found)?;
+    let decoded = hear(side, source, table, cells, found)?;
     if !decoded.whole {
-        return Err(StreamFault::PassCut {
-            count: source.count(),
-        });
+        let count = source.count();
+        return Err(StreamFault::PassCut { count }.into());
     }
     Ok(())
 }

@@ -2,8 +2,8 @@ ghost use Rattle.std.specs.Prelude.{◌≡◌, MatchResult};
 ghost use Rattle.slots.specs.Slots.{row_numbers, Suffices, Passes, Reads};
 
 use super::blank::Blank;
-use super::fault::SlotFault;
-use super::memory::suffices;
+use super::fault::{Refused, SlotFault};
+use super::memory::{check_memory, check_place};
 use decoder::cell::Cell;
 use entries::kind::{EntryKind, number_of_row};
 use scan::Side;
@@ -15,6 +15,13 @@ pub struct Held {
 }
 
 impl Held {
+    // The side of the table that is held.
+    pub fn side(&self) -> Side
+        ensures { result ≡ self.now.side }
+    {
+        self.side
+    }
+
     // The number at a place of the table.
     pub fn read<K: EntryKind>(
         &self,
@@ -23,14 +30,9 @@ impl Held {
         cells: &[Cell],
         found: &[u16],
     ) -> Result<i32, SlotFault>
-        ensures { Reads (Suffices self.now.side.exponent table.now cells.now found.now) self.now.side.exponent (row_numbers (λ row. K.EntryKind.number (K.EntryKind.entry row)) self.now.side.exponent table.now) place result }
+        ensures { Reads (Suffices self.now.side.exponent table.now cells.now found.now) self.now.side.exponent (row_numbers K.EntryKind.number K.EntryKind.entry self.now.side.exponent table.now) place result }
     {
-        if !suffices(self.side, table, cells, found) {
-            return Err(SlotFault::ShortMemory);
-        }
-        if place >= self.side.places() {
-            return Err(SlotFault::NoPlace);
-        }
+        check_place(self.side, place, table, cells, found)?;
         Ok(number_of_row::<K>(table[place]))
     }
 
@@ -40,13 +42,12 @@ impl Held {
         table: &[K::Row],
         cells: &[Cell],
         found: &[u16],
-    ) -> Result<Blank, (Held, SlotFault)>
+    ) -> Result<Blank, Refused<Held>>
         ensures clears { Passes (Suffices self.side.exponent table.now cells.now found.now) (Unit {0}) result }
-        ensures keeps { MatchResult result (λ blank. blank.side ≡ self.side) (λ e. e.0 ≡ self) }
+        ensures keeps { MatchResult result (λ blank. blank.side ≡ self.side) (λ refused. refused.slot ≡ self) }
     {
-        if !suffices(self.side, table, cells, found) {
-            return Err((self, SlotFault::ShortMemory));
-        }
-        Ok(Blank { side: self.side })
+        let side = self.side;
+        check_memory(side, table, cells, found).map_err(|fault| Refused { slot: self, fault })?;
+        Ok(Blank { side })
     }
 }

@@ -1,7 +1,7 @@
 ghost use Rattle.std.specs.Prelude.{◌≡◌};
 ghost use Rattle.stream.specs.Faults.{stream_refusal};
 
-use refusal::{Fault, Layer, Refusal};
+use refusal::{Fault, Refusal};
 
 // Why a list of bits is no stream. Each case holds its place: the bits that were taken until the fault was plain.
 #[derive(Clone, Copy, PartialEq, Eq, Debug)]
@@ -26,19 +26,14 @@ impl Fault for StreamFault {
     ghost meaning = { stream_refusal };
 
     fn refusal(&self) -> Refusal {
-        let (number, place) = match *self {
-            StreamFault::HeaderCut { count } => (8, count),
-            StreamFault::OtherSide => (9, 7),
-            StreamFault::RootAtLeaf { taken } => (10, taken),
-            StreamFault::NothingFound { taken } => (11, taken),
-            StreamFault::MissedRoot { taken } => (12, taken),
-            StreamFault::BitsAfterEnd { taken } => (13, taken),
-            StreamFault::PassCut { count } => (14, count),
-        };
-        Refusal {
-            number,
-            layer: Layer::Stream,
-            place,
+        match *self {
+            StreamFault::HeaderCut { count } => Refusal::new(8, count),
+            StreamFault::OtherSide => Refusal::new(9, 7),
+            StreamFault::RootAtLeaf { taken } => Refusal::new(10, taken),
+            StreamFault::NothingFound { taken } => Refusal::new(11, taken),
+            StreamFault::MissedRoot { taken } => Refusal::new(12, taken),
+            StreamFault::BitsAfterEnd { taken } => Refusal::new(13, taken),
+            StreamFault::PassCut { count } => Refusal::new(14, count),
         }
     }
 }

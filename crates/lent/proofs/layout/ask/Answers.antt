@@ -3,7 +3,7 @@ use Rattle.lent.proofs.Firsts.{told_lent, ended_lent}
 use Rattle.lent.proofs.layout.ask.Goals as goal
 
 pub returns-then-index-held : goal.returns-then-index-held
-returns-then-index-held g c = ended_lent g.L.Layout.space g.L.Layout.at c.args.bytes.now c.args.count c.args.index (omega arith)
+returns-then-index-held g c = ended_lent _ _ _ _ _ (omega arith)
 
 pub returns : goal.returns
-returns g c = rw c.get.ensures (told_lent g.L.Layout.space g.L.Layout.at c.args.bytes.now c.args.count c.args.index (omega arith))
+returns g c = rw c.get.ensures (told_lent _ _ _ _ _ (omega arith))

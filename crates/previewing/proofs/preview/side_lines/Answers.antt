@@ -17,9 +17,10 @@ pub returns-in_err-numbers : goal.returns-in_err-numbers
 returns-in_err-numbers g c =
     let p = err_from_is_err_and c.from_residual-in_err-numbers.result c.from_residual-in_err-numbers.ensures.1 in
     rw (p.1, p.2)
-    (side_unheard c.side-side.result.exponent c.args.exponent (g.S.Source.bits c.args.source.now) c.in_err-numbers.field-0.0 (ap (λ (side : Side). side.exponent) c.side-side.ensures ∙ c.in_ok-blank.ensures.1) c.in_ok-blank.ensures.0 c.in_err-numbers.ensures)
+    (side_unheard c.in_ok-blank.blank.side.exponent c.args.exponent (g.S.Source.bits c.args.source.now) c.in_err-numbers.field-0.0 c.in_ok-blank.ensures.1 c.in_ok-blank.ensures.0 c.in_err-numbers.ensures)
 
 pub returns : goal.returns
 returns g c =
-    side_heard string_bytes c.side-side.result.exponent c.args.exponent (g.S.Source.bits c.args.source.now) _ c.deref.result.now _
-    (ap (λ (side : Side). side.exponent) c.side-side.ensures ∙ c.in_ok-blank.ensures.1) c.in_ok-blank.ensures.0 c.in_ok-numbers.ensures.0 c.deref.ensures.value c.table_lines.ensures
+    let same = c.in_ok-blank.ensures.1 in
+    side_heard string_bytes _ _ c.args.exponent (g.S.Source.bits c.args.source.now) _ _ _ same (ap (λ (side : Side). side.exponent) c.side-side.ensures ∙ same) c.in_ok-blank.ensures.0
+    c.in_ok-numbers.ensures.0 c.deref.ensures.value c.table_lines.ensures

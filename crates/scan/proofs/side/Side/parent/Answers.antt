@@ -2,5 +2,5 @@ use Rattle.std.proofs.Common.{arith}
 use Rattle.scan.proofs.Division.{child_by_division}
 use Rattle.scan.proofs.side.Side.parent.Goals as goal
 
-pub returns : goal.returns
-returns c = λ p child. omega (arith, (child_by_division c.args.self.exponent p c.args.place c.args.self.low).0 child)
+pub returns-then-not-contains : goal.returns-then-not-contains
+returns-then-not-contains c = λ p child. grind (arith, (child_by_division c.args.self.exponent p c.args.place c.args.self.low).0 child)

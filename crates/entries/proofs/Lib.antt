@@ -1,2 +1,0 @@
-pub mod SurfaceRows
-pub mod PartialRows

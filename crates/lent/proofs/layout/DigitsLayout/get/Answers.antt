@@ -1,6 +1,0 @@
-use Rattle.std.proofs.Common.{rules}
-use Rattle.std.proofs.lemmas.List.{get_or_past}
-use Rattle.lent.proofs.layout.DigitsLayout.get.Goals as goal
-
-pub returns-in-None : goal.returns-in-None
-returns-in-None c = rw (get_or_past c.args.bytes.now c.args.index 0 (search rules))
