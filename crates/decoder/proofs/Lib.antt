@@ -16,3 +16,4 @@ pub mod Flags
 pub mod Heirs
 pub mod Roots
 pub mod Spelling
+pub mod Turns

@@ -48,10 +48,7 @@ pub fn decode<S: Source>(
     let found = &mut found[..places];
     clear_cells(cells);
     let mut machine = Machine::start(number(source, 3, 4));
-    for index in 7..count {
-        let Some(bit) = source.bit(index) else {
-            break;
-        };
+    for (index, bit) in source.iter().enumerate().skip(7) {
         machine.take(side, bit, index, cells, found)?;
     }
     Ok(Decoded {

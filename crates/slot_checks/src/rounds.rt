@@ -98,23 +98,15 @@ fn a_slot_goes_round(rt: HostRuntime) -> Result<(), Fail> {
     let mut found = [9u16; 20];
     let blank = Blank::new(2)?;
     let source = ByteSource::new(Packed, &[0x4B, 0x2B], 16);
-    let heard = blank
-        .preview::<_, Surface>(&source, &table, &mut cells, &mut found)
-        .map_err(SlotFault::from)?;
+    let heard = blank.preview::<_, Surface>(&source, &table, &mut cells, &mut found)?;
     assert!(rt; heard.read::<Surface>(16, &table, &cells, &found).is_err());
-    let held = heard
-        .settle::<Surface>(&mut table, &cells, &found)
-        .map_err(SlotFault::from)?;
+    let held = heard.settle::<Surface>(&mut table, &cells, &found)?;
     assert_eq!(rt; held.read::<Surface>(0, &table, &cells, &found), Ok(28));
     assert_eq!(rt; table[16], 5);
-    let blank = held
-        .clear::<Surface>(&table, &cells, &found)
-        .map_err(SlotFault::from)?;
+    let blank = held.clear::<Surface>(&table, &cells, &found)?;
     assert_eq!(rt; table[0], 28);
     let whole = ByteSource::new(Digits, STREAM, 70);
-    let held = blank
-        .load::<_, Surface>(&whole, &mut table, &mut cells, &mut found)
-        .map_err(SlotFault::from)?;
+    let held = blank.load::<_, Surface>(&whole, &mut table, &mut cells, &mut found)?;
     assert_eq!(rt; held.read::<Surface>(4, &table, &cells, &found), Ok(13));
     assert_eq!(rt; table[2], -7);
     Ok(())
@@ -130,9 +122,7 @@ fn partial_tables_are_loaded(rt: HostRuntime) -> Result<(), Fail> {
     let mut found = [9u16; 16];
     let blank = Blank::new(2)?;
     let source = ByteSource::new(Digits, STREAM, 70);
-    let held = blank
-        .load::<_, Partial>(&source, &mut table, &mut cells, &mut found)
-        .map_err(SlotFault::from)?;
+    let held = blank.load::<_, Partial>(&source, &mut table, &mut cells, &mut found)?;
     assert_eq!(rt; held.read::<Partial>(2, &table, &cells, &found), Ok(-7));
     assert!(rt; table[2].inverted);
     assert_eq!(rt; table[2].level, 7);

@@ -17,7 +17,7 @@ use entries::kind::EntryKind;
 use scan::Side;
 
 // A slot that has taken no stream.
-#[derive(Drop)]
+#[derive(Debug, Drop)]
 pub struct Blank {
     pub(crate) side: Side,
 }

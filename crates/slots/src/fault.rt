@@ -40,7 +40,7 @@ impl Fault for SlotFault {
 }
 
 // A refused call: the slot that it took, handed back as it was, and why.
-#[derive(Drop)]
+#[derive(Debug, Drop)]
 pub struct Refused<T> {
     pub slot: T,
     pub fault: SlotFault,

@@ -10,7 +10,7 @@ use entries::kind::EntryKind;
 use scan::Side;
 
 // A slot that has heard a preview: its numbers are those that the cells tell.
-#[derive(Drop)]
+#[derive(Debug, Drop)]
 pub struct Heard {
     pub(crate) side: Side,
 }

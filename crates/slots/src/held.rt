@@ -9,7 +9,7 @@ use entries::kind::{EntryKind, number_of_row};
 use scan::Side;
 
 // A slot that holds a table: its numbers are those that the rows stand for.
-#[derive(Drop)]
+#[derive(Debug, Drop)]
 pub struct Held {
     pub(crate) side: Side,
 }
