@@ -2,7 +2,6 @@
 use Rattle.std.proofs.Common.{◌≡◌, ℕ, ◌+◌, ◌-◌, ◌^◌, ◌<◌, ◌≤◌, Bool, false, eqb, ltb, List, [], ◌∷◌, ◌++◌, map, length, get_or, take, drop, replicate, Ok, Err, Result, sym, ap, ◌∙◌, subst, arith}
 use native.Mathlib.Nat.{pow-le-pow_right}
 use Rattle.decoder.proofs.Hearing.{sound_heard}
-use Rattle.decoder.proofs.Spelling.{spells_low}
 use Rattle.decoder.proofs.Starts.{start_sound, start_stage_lem}
 use Rattle.decoder.proofs.Steps.{start_level, start_stage}
 use Rattle.decoder.specs.Cells.{cell_number, cell_numbers, Decodes}
@@ -14,6 +13,7 @@ use Rattle.decoder.specs.declared.machine.Machine.{Machine}
 use Rattle.scan.proofs.Division.{fourfold}
 use Rattle.std.proofs.lemmas.List.{length-replicate, length-take, length-drop, get_or-replicate, take-append-le, drop_all, drop_more}
 use Rattle.std.proofs.lemmas.Bool.{cond-true, cond-false, lt-ltb, le-ltb, ne_eqb}
+use Rattle.stream.proofs.Header.{spells_below}
 use Rattle.stream.specs.Laws.{SideExponent}
 use Rattle.stream.specs.Reading.{refused, reading, spells}
 use Rattle.stream.specs.declared.fault.StreamFault.{StreamFault}
@@ -66,7 +66,7 @@ reads_header k n bits m cells found level e tells long told side places cleared 
     level_low : level ≤ 15
     level_low =
         let short : length (take 4 (drop 3 bits)) ≤ 4 = rw length-take (omega arith) in
-        omega (arith, spells_low (take 4 (drop 3 bits)), pow-le-pow_right {n = 2} (omega arith) short)
+        omega (arith, spells_below (take 4 (drop 3 bits)), pow-le-pow_right {n = 2} (omega arith) short)
 
 -- The numbers are told by the cells of the table alone.
 numbers_front : (k : ℕ) (cells rest : List Cell) → 4 ^ k ≤ length cells → cell_numbers k (cells ++ rest) ≡ cell_numbers k cells

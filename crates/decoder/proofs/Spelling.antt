@@ -1,7 +1,8 @@
 -- The number that bits spell, one bit at a time.
-use Rattle.std.proofs.Common.{◌≡◌, ℕ, ◌+◌, ◌*◌, ◌^◌, ◌<◌, ◌≤◌, Bool, true, false, cond, List, [], ◌∷◌, ◌++◌, length, take, drop, refl, sym, ap, ◌∙◌, add-one, length-append, append-nil, append_assoc, arith}
+use Rattle.std.proofs.Common.{◌≡◌, ℕ, ◌+◌, ◌*◌, ◌<◌, ◌≤◌, Bool, true, false, cond, List, [], ◌∷◌, ◌++◌, length, take, drop, refl, sym, ap, ◌∙◌, add-one, length-append, append-nil, append_assoc, arith}
 use native.Mathlib.Nat.{pow-succ', pow-le-pow_right}
 use Rattle.std.proofs.lemmas.List.{length_push, length-take, drop-take}
+use Rattle.stream.proofs.Header.{spells_below}
 use Rattle.stream.specs.Reading.{spells}
 
 -- One more bit doubles the number, and adds itself.
@@ -11,13 +12,6 @@ spells_push [] true = omega arith
 spells_push [] false = omega arith
 spells_push (true ∷ xs) b = rw (length_push xs b, add-one) (omega (arith, spells_push xs b, pow-succ' 2 (length xs)))
 spells_push (false ∷ xs) b = omega (arith, spells_push xs b)
-
--- A list of so many bits spells less than that power of two.
-pub spells_low : (xs : List Bool) → spells xs < 2 ^ length xs
-unfolding spells
-spells_low [] = omega arith
-spells_low (true ∷ xs) = omega (arith, spells_low xs, pow-succ' 2 (length xs))
-spells_low (false ∷ xs) = omega (arith, spells_low xs, pow-succ' 2 (length xs))
 
 -- No bits spell 0.
 pub spells_none : 0 ≡ spells []
@@ -29,7 +23,7 @@ pub spells_few : (xs rest bits : List Bool) (start width : ℕ) → xs ++ rest �
 spells_few xs rest bits start width e h =
     let whole = ap length e in
     let short : length xs ≤ 7 = omega (arith, length-append xs rest, whole, length-take width (drop start bits)) in
-    omega (arith, spells_low xs, pow-le-pow_right {n = 2} (omega arith) short)
+    omega (arith, spells_below xs, pow-le-pow_right {n = 2} (omega arith) short)
 
 -- One more is spelled, whichever way a bit is made a digit.
 pub spells_more : (digit_of : Bool → ℕ) (xs : List Bool) (b : Bool) (value digit : ℕ) → digit_of true ≡ 1 → digit_of false ≡ 0 → value ≡ spells xs → digit ≡ digit_of b

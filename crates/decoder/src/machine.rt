@@ -1,4 +1,4 @@
-ghost use Rattle.std.specs.Prelude.{◌≡◌, ℕ, ◌+◌, ◌^◌, ◌<◌, ◌≤◌, false, not, ◌&&◌, List, length, get_or, ◌==◌, slice_index, slice_index_or, slice_set};
+ghost use Rattle.std.specs.Prelude.{◌≡◌, ◌+◌, ◌^◌, ◌<◌, ◌≤◌, false, not, ◌&&◌, length, get_or, ◌==◌, slice_index, slice_index_or, slice_set};
 ghost use Rattle.decoder.specs.Machines.{clear, started, passed, with_mark, finding_one, found_at, shade_at, reached, refined_one, halved_cell, stage_of, Sound, Walks, EndsDominant, Refines, Takes};
 ghost use Rattle.decoder.specs.declared.machine.Waiting.TheVariants.{Subordinate};
 

@@ -19,17 +19,16 @@ impl<L: Layout> Shelf for ByteShelf<'_, L> {
     }
 
     fn put(&mut self, bit: bool) -> Result<(), Full> {
-        let count = Self::count(self);
-        if count >= Self::room(self) {
+        if self.count >= Self::room(self) {
             return Err(Full);
         }
-        L::set(self.bytes, count, bit);
-        self.count = count + 1;
+        L::set(self.bytes, self.count, bit);
+        self.count += 1;
         Ok(())
     }
 
     fn cut(&mut self, count: usize) -> Result<(), Beyond> {
-        if count > Self::count(self) {
+        if count > self.count {
             return Err(Beyond);
         }
         self.count = count;

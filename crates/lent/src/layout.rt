@@ -1,6 +1,5 @@
-ghost use Rattle.std.specs.Prelude.{◌≡◌, ℕ, ◌≤◌, min, Bool, List, length};
-ghost use Rattle.bits.specs.Bits.{Told};
-ghost use Rattle.lent.specs.Layouts.{lent_bits, packed_space, packed_at, packed_past, digit_space, digit_at, digit_of_bit, digit_past, Written, byte_with_bit, bit_in};
+ghost use Rattle.std.specs.Prelude.{◌≡◌, ℕ, ◌≤◌, Bool, List};
+ghost use Rattle.lent.specs.Layouts.{packed_space, packed_at, packed_past, digit_space, digit_at, digit_of_bit, digit_past, Written, byte_with_bit, bit_in};
 ghost use Rattle.std.proofs.Common.{rules};
 
 // How bits lie in bytes.
@@ -25,23 +24,6 @@ pub trait Layout: Copy {
         ensures { Written space at past bytes.old index bit bytes.new };
 
     ghost most: { (n : ℕ) → space n ≤ 131072 };
-}
-
-// How many bits are held, of so many counted.
-pub fn held<L: Layout>(bytes: usize, count: usize) -> usize
-    ensures { result ≡ min count (L.Layout.space bytes) }
-{
-    count.min(L::room(bytes))
-}
-
-// The bit at an index, of so many counted.
-pub fn ask<L: Layout>(bytes: &[u8], count: usize, index: usize) -> Option<bool>
-    ensures { Told (lent_bits L.Layout.space L.Layout.at bytes.now count) index result }
-{
-    if index >= held::<L>(bytes.len(), count) {
-        return None;
-    }
-    Some(L::get(bytes, index))
 }
 
 // Eight bits to a byte, the highest first.

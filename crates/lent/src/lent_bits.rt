@@ -1,24 +1,40 @@
-ghost use Rattle.std.specs.Prelude.{◌≡◌, min, length};
+ghost use Rattle.std.specs.Prelude.{◌≡◌, ◌≤◌, min, length};
 ghost use Rattle.lent.specs.Layouts.{lent_bits};
 
-use super::layout::{Layout, ask, held};
+use super::layout::Layout;
 use bits::source::Source;
+use std::alloc::AllocError;
 use std::convert::AsSlice;
 
 // Bytes that the host lends, as a source of bits: the first `count` bits that lie in them, at most as many as they have room for.
-#[derive(Clone, Copy, Drop)]
-pub struct LentBits<B, L> {
+#[derive(Drop)]
+pub struct LentBits<B: AsSlice<u8>, L: Layout> {
     layout: L,
     pub(crate) bytes: B,
     pub(crate) count: usize,
+    ghost within: { count ≤ L.Layout.space (length (B.AsSlice.items bytes)) },
 }
+
+impl<B: AsSlice<u8> + Clone, L: Layout> Clone for LentBits<B, L> {
+    ghost is_clone = { λ s c. L.Clone.is_clone s.layout c.layout × B.Clone.is_clone s.bytes c.bytes
+        × (c.count ≡ min s.count (L.Layout.space (length (B.AsSlice.items c.bytes)))) };
+
+    ghost is_infallible = { λ s. L.Clone.is_infallible s.layout × B.Clone.is_infallible s.bytes };
+
+    // Where a clone of the bytes lends fewer of them, the count is clipped to those.
+    fn clone(&self) -> Result<Self, AllocError> {
+        Ok(Self::new(self.layout.clone()?, self.bytes.clone()?, self.count))
+    }
+}
+
+impl<B: AsSlice<u8> + Copy, L: Layout> Copy for LentBits<B, L> {}
 
 impl<B: AsSlice<u8>, L: Layout> LentBits<B, L> {
     // A count above the room is taken as the room.
     pub fn new(layout: L, bytes: B, count: usize) -> Self
-        ensures { (result.bytes ≡ bytes) × (result.count ≡ min count (L.Layout.space (length (B.AsSlice.items bytes)))) }
+        ensures { (result.layout ≡ layout) × (result.bytes ≡ bytes) × (result.count ≡ min count (L.Layout.space (length (B.AsSlice.items bytes)))) }
     {
-        let count = held::<L>(bytes.as_slice().len(), count);
+        let count = count.min(L::room(bytes.as_slice().len()));
         LentBits {
             layout,
             bytes,
@@ -31,10 +47,13 @@ impl<B: AsSlice<u8>, L: Layout> Source for LentBits<B, L> {
     ghost bits = { λ s. lent_bits L.Layout.space L.Layout.at (B.AsSlice.items s.bytes) s.count };
 
     fn count(&self) -> usize {
-        held::<L>(self.bytes.as_slice().len(), self.count)
+        self.count
     }
 
     fn bit(&self, index: usize) -> Option<bool> {
-        ask::<L>(self.bytes.as_slice(), self.count, index)
+        if index >= self.count {
+            return None;
+        }
+        Some(L::get(self.bytes.as_slice(), index))
     }
 }

@@ -1,5 +1,5 @@
 -- What the host learns of its bytes after a shelf over them was packed.
-use Rattle.std.proofs.Common.{◌≡◌, ℕ, List, [], ◌++◌, length, IfErr, Ok, Err, Result, ap, ◌∙◌, arith}
+use Rattle.std.proofs.Common.{◌≡◌, ℕ, List, [], ◌∷◌, ◌++◌, length, get_or, drop, IfErr, Ok, Err, Result, sym, ap, ◌∙◌, arith}
 use Rattle.lent.specs.Layouts.{first, lent_bits, packed_space, packed_at, packed_past}
 use Rattle.lent.specs.declared.lent_bits.LentBits.{LentBits}
 use Rattle.std.specs.Borrow.{MutBor}
@@ -10,12 +10,12 @@ use Rattle.packing.specs.Texts.{bits_of}
 use Rattle.packing.specs.declared.fault.PackFault.{PackFault}
 use Rattle.packing.specs.declared.fault.PackFault.TheVariants.{Text, Shelf}
 
-module _ (text before after : List ℕ) (start end : LentBits (MutBor (List ℕ)) Packed)
+module _ {a l : _} (text before after : List ℕ) (start end : LentBits (MutBor (List ℕ)) Packed a l)
     (lent : start.bytes.now ≡ before) (empty : start.count ≡ 0)
-    (stands : (start.bytes.ghost_name ≡ end.bytes.ghost_name) × (packed_past end.bytes.now ≡ packed_past start.bytes.now))
+    (stands : end.bytes.ghost_name ∷ packed_past end.bytes.now ≡ start.bytes.ghost_name ∷ packed_past start.bytes.now)
     (back : start.bytes.ghost_name ≡ end.bytes.ghost_name → after ≡ end.bytes.now) where
   is_after : after ≡ end.bytes.now
-  is_after = back stands.0
+  is_after = back (sym (ap (λ xs. get_or xs 0 0) stands))
 
   none : lent_bits packed_space packed_at start.bytes.now start.count ≡ []
   none = lent_none packed_space packed_at start.bytes.now start.count empty
@@ -33,7 +33,7 @@ module _ (text before after : List ℕ) (start end : LentBits (MutBor (List ℕ)
         omega arith,
         ap (λ bytes. first (packed_at bytes) n) is_after ∙ ap (first (packed_at end.bytes.now)) count
             ∙ lent_first packed_space packed_at end.bytes.now end.count (bits_of text) bits,
-        ap packed_past is_after ∙ stands.1 ∙ ap packed_past lent,
+        ap packed_past is_after ∙ ap (drop 1) stands ∙ ap packed_past lent,
       )
   packed_into (Err (Text fault)) (is, put) u = (is, is_after ∙ ap (λ s. s.bytes.now) u ∙ lent)
   packed_into (Err (Shelf full)) (is, lacks, put) u =

@@ -1,4 +1,4 @@
-ghost use Rattle.std.specs.Prelude.{◌≡◌, true, false};
+ghost use Rattle.std.specs.Prelude.{◌≡◌};
 ghost use Rattle.packing.specs.Texts.{digits_in, is_digit_byte, only_digits, TextRead};
 
 use super::fault::TextFault;

@@ -1,12 +1,13 @@
 -- The faults of previewing.
-use Rattle.std.specs.Prelude.{◌≡◌, ℕ, ◌<◌, ◌≤◌, Bool, List, length, take, ℤ, Ok, Err, Result}
+use Rattle.std.specs.Prelude.{◌≡◌, ℕ, ◌^◌, ◌<◌, ◌≤◌, Bool, List, length, take, ℤ, Ok, Err, Result}
 use Rattle.packing.specs.Faults.{text_refusal}
 use Rattle.previewing.specs.Previews.{line_of_refusal}
 use Rattle.previewing.specs.declared.fault.PreviewFault.{PreviewFault}
 use Rattle.previewing.specs.declared.fault.PreviewFault.TheVariants.{Text, Slot, NoMemory}
 use Rattle.slots.specs.Faults.{slot_refusal}
 use Rattle.slots.specs.declared.fault.SlotFault.TheVariants.{NoSide, ShortMemory, NoPlace, Stream}
-use Rattle.stream.specs.Reading.{spells}
+use Rattle.stream.specs.Numbers.{middle}
+use Rattle.stream.specs.Reading.{spells, previewed}
 use Rattle.stream.specs.declared.fault.StreamFault.{StreamFault}
 use Rattle.stream.specs.declared.fault.StreamFault.TheVariants.{HeaderCut}
 
@@ -23,6 +24,10 @@ Unheard outcome (Slot ShortMemory) = ⊥
 Unheard outcome (Slot NoPlace) = ⊥
 Unheard outcome (Slot (Stream fault)) = outcome ≡ Err fault
 Unheard outcome NoMemory = Unit {0}
+
+-- These are all the numbers that a preview of these bits hears in a table of 4 ^ k places.
+abbrev pub HeardAll : ℕ → List Bool → List ℤ → Type 0
+HeardAll k bits numbers = (previewed middle k bits ≡ Ok numbers) × (length numbers ≡ 4 ^ k)
 
 -- These lines are what a fault is told by; of no memory nothing is told.
 abbrev pub ToldBy : List ℕ → PreviewFault → Type 0

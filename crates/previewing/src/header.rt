@@ -8,10 +8,6 @@ use stream::fault::StreamFault;
 pub fn side_exponent<S: Source>(source: &S) -> Result<u32, StreamFault>
     ensures { Headed (S.Source.bits source.now) result }
 {
-    match side_told(source) {
-        Some(exponent) => Ok(exponent),
-        None => Err(StreamFault::HeaderCut {
-            count: source.count(),
-        }),
-    }
+    let count = source.count();
+    side_told(source).ok_or(StreamFault::HeaderCut { count })
 }

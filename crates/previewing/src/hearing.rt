@@ -1,8 +1,7 @@
-ghost use Rattle.std.specs.Prelude.{◌≡◌, ◌^◌, length, IfOk, Ok, vec_len, MatchResult};
+ghost use Rattle.std.specs.Prelude.{◌≡◌, Ok, vec_len, MatchResult};
 ghost use Rattle.decoder.specs.Cells.{cell_numbers};
-ghost use Rattle.previewing.specs.Faults.{Unheard};
+ghost use Rattle.previewing.specs.Faults.{HeardAll, Unheard};
 ghost use Rattle.previewing.specs.declared.fault.PreviewFault.TheVariants.{NoMemory};
-ghost use Rattle.slots.specs.Slots.{Suffices};
 ghost use Rattle.stream.specs.Numbers.{middle};
 ghost use Rattle.stream.specs.Reading.{previewed};
 
@@ -10,7 +9,6 @@ use super::fault::PreviewFault;
 use bits::source::Source;
 use decoder::cell::Cell;
 use entries::surface::Surface;
-use scan::Side;
 use slots::blank::Blank;
 use slots::heard::Heard;
 use std::alloc::{AllocError, Global};
@@ -60,7 +58,7 @@ impl Memory {
         blank: Blank,
         source: &S,
     ) -> Result<Vec<i32>, PreviewFault>
-        ensures { MatchResult result (λ v. (previewed middle blank.side.exponent (S.Source.bits source.now) ≡ Ok v.items) × (length v.items ≡ 4 ^ blank.side.exponent)) (Unheard (previewed middle blank.side.exponent (S.Source.bits source.now))) }
+        ensures { MatchResult result (λ v. HeardAll blank.side.exponent (S.Source.bits source.now) v.items) (Unheard (previewed middle blank.side.exponent (S.Source.bits source.now))) }
     {
         let heard = blank.preview::<_, Surface>(
             source,
@@ -74,7 +72,7 @@ impl Memory {
 
 // The numbers that a preview hears of a source in memory of its own, in scan order.
 pub fn hear<S: Source>(heap: Global, blank: Blank, source: &S) -> Result<Vec<i32>, PreviewFault>
-    ensures { MatchResult result (λ v. (previewed middle blank.side.exponent (S.Source.bits source.now) ≡ Ok v.items) × (length v.items ≡ 4 ^ blank.side.exponent)) (Unheard (previewed middle blank.side.exponent (S.Source.bits source.now))) }
+    ensures { MatchResult result (λ v. HeardAll blank.side.exponent (S.Source.bits source.now) v.items) (Unheard (previewed middle blank.side.exponent (S.Source.bits source.now))) }
 {
     let mut memory = Memory::new(heap)?;
     memory.hear(heap, blank, source)

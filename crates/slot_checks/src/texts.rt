@@ -7,7 +7,7 @@ const EIGHT: &[u8; 51] = b"011011010110001100101010100010100000000001000001010";
 
 fn prints(rt: &(impl Abort + AllocGlobal), text: &[u8], lines: &str) -> Result<(), Fail> {
     let shown = preview_text(rt.alloc(), text)?;
-    assert!(rt; shown.as_str() == lines);
+    assert_eq!(rt; shown.as_str(), lines);
     Ok(())
 }
 

@@ -27,10 +27,8 @@ impl Blank {
     pub fn new(exponent: u32) -> Result<Blank, SlotFault>
         ensures { MatchResult result (λ blank. SideExponent exponent × (blank.side.exponent ≡ exponent)) (λ fault. (SideExponent exponent → ⊥) × (fault ≡ NoSide)) }
     {
-        match Side::new(exponent) {
-            Some(side) => Ok(Blank { side }),
-            None => Err(SlotFault::NoSide),
-        }
+        let side = Side::new(exponent).ok_or(SlotFault::NoSide)?;
+        Ok(Blank { side })
     }
 
     // The side of the tables that the slot takes.

@@ -1,6 +1,6 @@
 -- What is read whole is the stream of the table that is then heard.
-use Rattle.std.proofs.Common.{◌≡◌, ℕ, zero, suc, ◌+◌, ◌-◌, ◌*◌, ◌/◌, ◌^◌, ◌<◌, ◌≤◌, Bool, true, false, cond, ◌||◌, eqb, leb, ◌⊎◌, List, [], ◌∷◌, ◌++◌, length, get_or, ℤ, pos, nat_abs, Ok, Err, sym, refl, ap, ◌∙◌, subst, ap₂, subst₂, inl, inr, mul_comm, add-mul, arith}
-use native.Mathlib.Nat.{div-eq_of_lt-le}
+use Rattle.std.proofs.Common.{◌≡◌, ℕ, zero, suc, ◌+◌, ◌-◌, ◌*◌, ◌/◌, ◌^◌, ◌<◌, ◌≤◌, Bool, true, false, cond, ◌||◌, eqb, leb, ◌⊎◌, List, [], ◌∷◌, ◌++◌, length, get_or, ℤ, pos, nat_abs, Ok, Err, sym, refl, ap, ◌∙◌, subst, ap₂, subst₂, inl, inr, arith}
+use native.Mathlib.Nat.{pow-succ'}
 use Rattle.std.proofs.lemmas.Nat.{pow_pos}
 use Rattle.std.proofs.lemmas.List.FromFn.{length-map-range_with_len, get_or-map-range_with_len}
 use Rattle.std.proofs.ByRecursion.{All-weaker}
@@ -14,11 +14,12 @@ use Rattle.stream.specs.Numbers.{Table, Placement, InCell, negative, signed, mag
 use Rattle.stream.specs.Passes.{significant, Mark, skipped, labelled, Finding, is_found, marks_to, findings, halved, upper}
 use Rattle.stream.specs.Reading.{Dominant, going, ended, leaf_root, Subordinate, refine_all, Outcome, refused, heard, Pass, over, cut, faulty, is_none, go_on, read_to, has_missed_root, after_subordinate, after_labels, read_pass, read_passes, reading, heard_at, numbers_heard, loaded}
 use Rattle.stream.specs.Streams.{spelled, labels, refinements, refined, found_in, pass_symbols, pass_found, passes, symbols, header, level_told, stream}
-use Rattle.stream.proofs.Cells.{double, cell_holds}
+use Rattle.stream.proofs.Cells.{cell_holds}
 use Rattle.stream.proofs.Dominant.{read_coherent, marks_same, fresh_due, spelled_append, is_found_append, is_found_findings}
 use Rattle.stream.proofs.Header.{refused_heard, reading_headed}
 use Rattle.stream.proofs.Levels.{largest_bound, levels}
-use Rattle.stream.proofs.Likeness.{unsigned_abs_signed, negative_signed}
+use Rattle.stream.proofs.Likeness.{block_of, unsigned_abs_signed, negative_signed}
+use Rattle.stream.proofs.Nearness.{heard_none}
 use Rattle.stream.proofs.RoundTrip.{Reached, level_reached}
 use Rattle.stream.proofs.Shapes.{all_both, all_parts, found_at, ShapeOf, Distinct, Shaped, FreshAt, findings_marked, dominant_shaped, subordinate_shaped, refine_all_found}
 use Rattle.stream.proofs.States.{CellOf, State}
@@ -28,9 +29,7 @@ use Rattle.stream.proofs.Terms.{cell_at, Early, Says}
 
 -- The cell of a number is the aligned cell that holds it.
 pub low_of : (w q n : ℕ) → 2 ^ w * q ≤ n → n < 2 ^ w * q + 2 ^ w → low_end w n ≡ 2 ^ w * q
-low_of w q n l u =
-    let c = mul_comm (2 ^ w) q in
-    ap (λ x. 2 ^ w * x) (div-eq_of_lt-le (2 ^ w) (omega arith) (omega (arith, add-mul q 1 (2 ^ w))))
+low_of w q n l u = ap (λ x. 2 ^ w * x) (block_of w q n l u)
 
 -- A finding with the sign of its number and the low end and the width of its cell.
 cell_of : (k : ℕ) (u : List ℤ) (w l : ℕ) (x : Finding) → x.negated ≡ negative (get_or u x.place (pos 0)) → x.low ≡ low_end w (magnitude_at u x.place) → x.width ≡ 2 ^ w
@@ -51,12 +50,12 @@ unhalved k u i l x b s c = (cell_of k u (suc i) l x (ap (λ y. y.negated) c.is) 
     low = ap (λ y. y.low) c.is
 
     whole : (b : Bool) → x.low + cond b (x.width / 2) 0 ≡ low_end i n → x.low ≡ low_end (suc i) n
-    whole true e = s.aligned ∙ sym (low_of (suc i) s.part n (omega (arith, s.aligned, s.wide, double i, cell_holds i n)) (omega (arith, s.aligned, s.wide, double i, cell_holds i n)))
-    whole false e = s.aligned ∙ sym (low_of (suc i) s.part n (omega (arith, s.aligned, double i, cell_holds i n)) (omega (arith, s.aligned, double i, cell_holds i n)))
+    whole true e = s.aligned ∙ sym (low_of (suc i) s.part n (omega (arith, s.aligned, s.wide, pow-succ' 2 i, cell_holds i n)) (omega (arith, s.aligned, s.wide, pow-succ' 2 i, cell_holds i n)))
+    whole false e = s.aligned ∙ sym (low_of (suc i) s.part n (omega (arith, s.aligned, pow-succ' 2 i, cell_holds i n)) (omega (arith, s.aligned, pow-succ' 2 i, cell_holds i n)))
 
     bit : (b : Bool) → x.low + cond b (x.width / 2) 0 ≡ low_end i n → leb (x.low + x.width / 2) n ≡ b
     bit true e = le-leb _ _ (omega (arith, cell_holds i n))
-    bit false e = lt-leb _ _ (omega (arith, s.wide, double i, cell_holds i n))
+    bit false e = lt-leb _ _ (omega (arith, s.wide, pow-succ' 2 i, cell_holds i n))
 
 -- The subordinate pass that was read is the coder's.
 record Subordinated (k : ℕ) (u : List ℤ) (i l : ℕ) (xs : List Finding) (bits : List Bool) : Type 0 where
@@ -97,7 +96,7 @@ fresh_cell k u j ms p h e =
     let sign : x.negated ≡ negative (get_or u x.place (pos 0)) = ap (λ y. y.negated) c.is in
     let low : x.low ≡ low_end j (magnitude_at u x.place) = ap (λ y. y.low) c.is in (
       ap (λ q. get_or ms q skipped) (sym i) ∙ m.marked ∙ ap (λ b. labelled (significant b)) (sign ∙ ap (λ q. negative (get_or u q (pos 0))) r.2),
-      subst (λ q. magnitude_at u q < 2 ^ suc j) r.2 (omega (arith, low, m.lowest, double j, cell_holds j (magnitude_at u x.place))),
+      subst (λ q. magnitude_at u q < 2 ^ suc j) r.2 (omega (arith, low, m.lowest, pow-succ' 2 j, cell_holds j (magnitude_at u x.place))),
     )
 
 -- The state before a dominant pass, from the state after it.
@@ -131,7 +130,7 @@ undominated k u j earlier ms s st = record { cells = cells; early = early }
         not_yet : is_found earlier p ≡ false → magnitude_at u p < 2 ^ suc j
         not_yet e = elim (cases_Bool (leb (2 ^ j) (magnitude_at u p))) [
           | inl b ↦ (fresh_cell k u j ms p parts.1 (now e (sym (is_found_append earlier fresh p) ∙ st.early p h ∙ b))).1
-          | inr b ↦ omega (arith, leb-false _ _ b, double j)
+          | inr b ↦ omega (arith, leb-false _ _ b, pow-succ' 2 j)
         ]
 
 -- And the marks.
@@ -356,11 +355,6 @@ unfolding heard_at
 heard_own place [] d = tt
 heard_own place (x ∷ xs) d =
     (rw (eq-eqb x.place x.place refl), all_both _ _ _ (λ y a b. rw a b) xs (others xs x.place d.0) (heard_own place xs d.1))
-
-heard_none : (place : Placement) (xs : List Finding) (p : ℕ) → is_found xs p ≡ false → heard_at place xs p ≡ pos 0
-unfolding heard_at is_found
-heard_none place [] p e = refl
-heard_none place (x ∷ xs) p e = let q = or_parts (eqb x.place p) (is_found xs p) e in rw q.0 (heard_none place xs p q.1)
 
 heard_at_lem : (place : Placement) (k : ℕ) (found : List Finding) (p : ℕ) → p < 4 ^ k → get_or (numbers_heard place k found) p (pos 0) ≡ heard_at place found p
 unfolding numbers_heard

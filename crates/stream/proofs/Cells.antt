@@ -1,23 +1,20 @@
 -- Cells in closed form: a subordinate pass takes each cell to the cell of half the width that holds the magnitude.
-use Rattle.std.proofs.Common.{◌≡◌, ℕ, zero, suc, ◌+◌, ◌*◌, ◌/◌, ◌%◌, ◌^◌, ◌<◌, ◌≤◌, Bool, true, cond, leb, ◌⊎◌, List, [], ◌∷◌, ◌++◌, map, get_or, ℤ, pos, sym, refl, ap, ◌∙◌, inl, inr, mul_assoc, mul-add, mul_left_comm, add-one, arith}
+use Rattle.std.proofs.Common.{◌≡◌, ℕ, zero, suc, ◌+◌, ◌*◌, ◌/◌, ◌%◌, ◌^◌, ◌<◌, ◌≤◌, Bool, true, cond, leb, ◌⊎◌, List, [], ◌∷◌, ◌++◌, length, get_or, ℤ, pos, sym, refl, ap, ◌∙◌, inl, inr, mul_assoc, mul-add, mul_left_comm, add-one, arith}
 use native.Mathlib.Nat.{pow-succ', div-add-mod}
 use Rattle.std.proofs.lemmas.Nat.{pow_pos, shr-shr, mod_below}
 use Rattle.std.proofs.lemmas.Bool.{le-leb, lt-leb}
 use Rattle.stream.specs.Numbers.{negative, magnitude_at, low_end}
-use Rattle.stream.specs.Passes.{Finding, is_found, halved, upper}
+use Rattle.stream.specs.Passes.{Finding, halved, upper}
 use Rattle.stream.specs.Streams.{refinements, refined, spelled}
 use Rattle.stream.specs.Reading.{refine_all}
 use Rattle.stream.proofs.Terms.{cell_at}
 
--- Twice as wide, and half of it.
-pub double : (j : ℕ) → 2 ^ suc j ≡ 2 * 2 ^ j
-double j = pow-succ' 2 j
-
+-- Half the width, and twice the parts.
 pub half : (j : ℕ) → 2 ^ suc j / 2 ≡ 2 ^ j
-half j = omega (arith, double j)
+half j = omega (arith, pow-succ' 2 j)
 
 pub twice : (j q : ℕ) → 2 ^ suc j * q ≡ 2 ^ j * (2 * q)
-twice j q = ap (λ x. x * q) (double j) ∙ mul_assoc 2 (2 ^ j) q ∙ mul_left_comm 2 (2 ^ j) q
+twice j q = ap (λ x. x * q) (pow-succ' 2 j) ∙ mul_assoc 2 (2 ^ j) q ∙ mul_left_comm 2 (2 ^ j) q
 
 -- The cell of a number holds it.
 pub cell_holds : (w n : ℕ) → (low_end w n ≤ n) × (n < low_end w n + 2 ^ w)
@@ -56,19 +53,14 @@ pub halved_cell_lem : (t : List ℤ) (j p : ℕ) → halved (cell_at t (suc j) p
 unfolding cell_at halved upper
 halved_cell_lem t j p = rw (half j) (ap (λ x. record { place = p; negated = negative (get_or t p (pos 0)); low = x; width = 2 ^ j }) (half_low j (magnitude_at t p)))
 
-pub refined_cells : (t : List ℤ) (j : ℕ) (ps : List ℕ) → refined t (map (cell_at t (suc j)) ps) ≡ map (cell_at t j) ps
-unfolding refined
-refined_cells t j [] = refl
-refined_cells t j (p ∷ ps) = rw (halved_cell_lem t j p, refined_cells t j ps)
+-- Each found place has one subordinate bit.
+pub length_refinements : (t : List ℤ) (j : ℕ) (xs : List Finding) → length (spelled (refinements t j xs)) ≡ length xs
+unfolding refinements spelled
+length_refinements t j [] = refl
+length_refinements t j (x ∷ xs) = ap suc (length_refinements t j xs)
 
 pub refine_all_lem : (t : List ℤ) (j : ℕ) (xs : List Finding) (rest : List Bool)
     → refine_all xs (spelled (refinements t j xs) ++ rest) ≡ record { found = refined t xs; whole = true; rest = rest }
 unfolding refine_all refinements refined spelled
 refine_all_lem t j [] rest = refl
 refine_all_lem t j (x ∷ xs) rest = rw (refine_all_lem t j xs rest)
-
--- Which places are found does not depend on the width of the cells.
-pub cells_found : (t : List ℤ) (w v : ℕ) (ps : List ℕ) (p : ℕ) → is_found (map (cell_at t w) ps) p ≡ is_found (map (cell_at t v) ps) p
-unfolding is_found cell_at
-cells_found t w v [] p = refl
-cells_found t w v (q ∷ ps) p = rw (cells_found t w v ps p)

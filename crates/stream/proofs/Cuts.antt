@@ -1,5 +1,6 @@
 -- Cutting a list of symbols: what is taken of their bits, the run of whole ones, the threshold of the last.
 use Rattle.std.proofs.Common.{◌≡◌, ℕ, zero, suc, ◌-◌, ◌^◌, ◌<◌, ◌≤◌, Bool, true, false, cond, leb, List, [], ◌∷◌, ◌++◌, length, take, drop, ℤ, sym, refl, ap, ◌∙◌, inl, inr, arith, length-append}
+use Rattle.std.proofs.Math.Seq.{take-append-add}
 use Rattle.std.proofs.ByRecursion.{All-append}
 use Rattle.std.proofs.lemmas.List.{append-nil, length-take, take-append-le}
 use Rattle.std.proofs.lemmas.Bool.{cases_Bool, cases_lt, le-leb, lt-leb, leb-true, cond-true, cond-false, cond_both}
@@ -12,9 +13,7 @@ use Rattle.stream.proofs.Dominant.{read_marks, spelled_append, labels_append}
 
 -- What is taken of two lists, one behind the other, reaches into the second one.
 pub take_over {ℓ} : {A : Type ℓ} (n : ℕ) (xs ys : List A) → length xs ≤ n → take n (xs ++ ys) ≡ xs ++ take (n - length xs) ys
-take_over n [] ys h = ap (λ m. take m ys) (omega arith)
-take_over zero (x ∷ xs) ys h = absurd (omega arith)
-take_over (suc n) (x ∷ xs) ys h = ap (x ∷◌) (take_over n xs ys (omega arith) ∙ ap (λ m. xs ++ take m ys) (omega arith))
+take_over n xs ys h = ap (λ m. take m (xs ++ ys)) (omega arith) ∙ take-append-add xs ys (n - length xs)
 
 -- Every symbol has a bit.
 some_bit : (s : Symbol) → 1 ≤ length (symbol_bits s)
@@ -84,12 +83,6 @@ from_refinements : (t : List ℤ) (j : ℕ) (xs : List Finding) → From j (refi
 unfolding refinements
 from_refinements t j [] = tt
 from_refinements t j (x ∷ xs) = (omega arith, from_refinements t j xs)
-
--- Each found place has one subordinate bit.
-pub length_refinements : (t : List ℤ) (j : ℕ) (xs : List Finding) → length (spelled (refinements t j xs)) ≡ length xs
-unfolding refinements spelled
-length_refinements t j [] = refl
-length_refinements t j (x ∷ xs) = ap suc (length_refinements t j xs)
 
 -- All symbols of the passes at one threshold stand at it.
 pub from_pass : (k : ℕ) (t : List ℤ) (j : ℕ) (earlier : List Finding) → From j (pass_symbols k t j earlier)

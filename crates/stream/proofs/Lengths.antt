@@ -1,16 +1,18 @@
 -- Lengths of streams: what a finer floor appends, how long a stream can be, and the longest run of symbols that fits.
-use Rattle.std.proofs.Common.{◌≡◌, ℕ, zero, suc, ◌+◌, ◌-◌, ◌*◌, ◌^◌, ◌<◌, ◌≤◌, Bool, true, false, cond, not, ◌&&◌, ◌||◌, eqb, leb, List, [], ◌∷◌, ◌++◌, length, get_or, ℤ, sym, refl, ap, ◌∙◌, inl, inr, add-suc, mul-le-mul_right, suc-mul, mul-le-mul, mul-le-mul_left, arith}
+use Rattle.std.proofs.Common.{◌≡◌, ℕ, zero, suc, ◌+◌, ◌-◌, ◌*◌, ◌^◌, ◌<◌, ◌≤◌, Bool, true, false, cond, not, ◌&&◌, ◌||◌, leb, List, [], ◌∷◌, ◌++◌, length, get_or, ℤ, sym, refl, ap, ◌∙◌, inl, inr, add-suc, mul-le-mul_right, suc-mul, mul-le-mul, mul-le-mul_left, arith}
 use Rattle.scan.proofs.Division.{places_most_lem}
 use Rattle.std.proofs.lemmas.List.{append-nil, append_assoc, length-append}
 use Rattle.std.proofs.lemmas.Bool.{cases_lt, leb-true, leb-false, lt-leb, cond_both, false≢true, true≢false}
+use Rattle.stream.proofs.Cells.{length_refinements}
 use Rattle.stream.proofs.Dominant.{spelled_append, labels_append, is_found_append, is_found_findings, mark_of, marks_suc, length_marks, mark_at}
 use Rattle.stream.proofs.Header.{length_header}
 use Rattle.stream.proofs.RoundTrip.{found_after}
 use Rattle.stream.proofs.Levels.{levels, thresholds_append}
+use Rattle.stream.proofs.States.{refined_found}
 use Rattle.stream.specs.Laws.{Appends, Longest, LongestRun}
 use Rattle.stream.specs.Numbers.{Table, level, thresholds}
-use Rattle.stream.specs.Passes.{Label, significant, zerotree_root, isolated_zero, Mark, skipped, labelled, Finding, is_found, is_fresh, under_root, due, label_of, marks_to, findings, halved}
-use Rattle.stream.specs.Streams.{Symbol, symbol_bits, spelled, labels, refinements, refined, found_in, pass_symbols, pass_found, passes, symbols, header, level_told, stream, longest_run}
+use Rattle.stream.specs.Passes.{Label, significant, zerotree_root, isolated_zero, Mark, skipped, labelled, Finding, is_found, is_fresh, under_root, due, label_of, marks_to, findings}
+use Rattle.stream.specs.Streams.{Symbol, symbol_bits, spelled, labels, refined, found_in, pass_symbols, pass_found, passes, symbols, header, level_told, stream, longest_run}
 
 -- ---- A finer floor
 
@@ -180,19 +182,9 @@ unfolding refined
 length_refined t [] = refl
 length_refined t (x ∷ xs) = ap suc (length_refined t xs)
 
-found_refined : (t : List ℤ) (xs : List Finding) (p : ℕ) → is_found (refined t xs) p ≡ is_found xs p
-unfolding refined halved is_found
-found_refined t [] p = refl
-found_refined t (x ∷ xs) p = ap (λ b. eqb x.place p || b) (found_refined t xs p)
-
 sparse_refined : (n : ℕ) (t : List ℤ) (xs : List Finding) → Sparse n xs → Sparse n (refined t xs)
 sparse_refined n t xs h =
-    omega (arith, length_refined t xs, tally_same n (λ p. not (is_found (refined t xs) p)) (λ p. not (is_found xs p)) (λ p. ap not (found_refined t xs p)))
-
-length_refinements : (t : List ℤ) (j : ℕ) (xs : List Finding) → length (spelled (refinements t j xs)) ≡ length xs
-unfolding spelled refinements
-length_refinements t j [] = refl
-length_refinements t j (x ∷ xs) = ap suc (length_refinements t j xs)
+    omega (arith, length_refined t xs, tally_same n (λ p. not (is_found (refined t xs) p)) (λ p. not (is_found xs p)) (λ p. ap not (refined_found t xs p)))
 
 -- The passes at one threshold keep the count,
 pass_sparse : (k j : ℕ) (t : List ℤ) (earlier : List Finding) → Sparse (4 ^ k) earlier → Sparse (4 ^ k) (pass_found k t j earlier)

@@ -1,28 +1,22 @@
 -- Likeness of numbers at a floor: what one resave keeps, how floors nest, and how far many resaves lead.
-use Rattle.std.proofs.Common.{◌≡◌, ℕ, zero, suc, ◌+◌, ◌-◌, ◌*◌, ◌/◌, ◌^◌, ◌<◌, ◌≤◌, max, Bool, true, false, List, [], ◌∷◌, ℤ, pos, negsuc, ◌-ℤ◌, nat_abs, sym, refl, ap, ◌∙◌, ap₂, inl, inr, mul_comm, div-lt_iff_lt-mul, add-mul, mul-le-mul_left, le-div_iff_mul-le, mul-add, arith}
-use native.Mathlib.Nat.{pow-succ', one-le-pow, mul-div-mul_left, mul-div-le, lt-mul-div-succ, div-eq_of_lt-le, div-div-eq-div-mul}
+use Rattle.std.proofs.Common.{◌≡◌, ℕ, zero, suc, ◌+◌, ◌-◌, ◌*◌, ◌/◌, ◌^◌, ◌<◌, ◌≤◌, max, Bool, true, false, List, [], ◌∷◌, ℤ, pos, negsuc, ◌-ℤ◌, nat_abs, sym, refl, ap, ◌∙◌, inl, inr, mul_comm, div-lt_iff_lt-mul, add-mul, mul-le-mul_left, le-div_iff_mul-le, mul-add, arith}
+use native.Mathlib.Nat.{pow-succ', mul-div-mul_left, mul-div-le, lt-mul-div-succ, div-eq_of_lt-le, div-div-eq-div-mul}
 use Rattle.std.proofs.lemmas.Int.{ints}
+use Rattle.std.proofs.lemmas.Nat.{pow_pos}
 use Rattle.std.proofs.lemmas.Bool.{cases_lt, le-leb, lt-leb, true≢false, false≢true}
 use Rattle.stream.specs.Numbers.{Placement, InCell, Alike, negative, signed, width_after, low_end, quantized}
 use Rattle.stream.specs.Laws.{SameSign, Nesting, Resave, resaved, coarsest, CreepBound}
 
 -- ---- Magnitudes
 
-pub power : (j : ℕ) → 1 ≤ 2 ^ j
-power j = one-le-pow j 2 (omega arith)
-
 -- Twice a number in steps of the floor is the number in steps of half the floor.
-doubled : (f n : ℕ) → 2 * n / 2 ^ suc f ≡ n / 2 ^ f
+pub doubled : (f n : ℕ) → 2 * n / 2 ^ suc f ≡ n / 2 ^ f
 doubled f n = rw pow-succ' (mul-div-mul_left n (2 ^ f) (omega arith))
 
-half_of : (f : ℕ) → suc f - 1 ≡ f
+pub half_of : (f : ℕ) → suc f - 1 ≡ f
 half_of f = omega arith
 
--- Equal quotients are equal blocks, of half the floor's width or of width 1.
-blocks : (f m n : ℕ) → 2 * m / 2 ^ f ≡ 2 * n / 2 ^ f → m / 2 ^ width_after f ≡ n / 2 ^ width_after f
-blocks zero m n e = omega arith
-blocks (suc f) m n e = rw half_of (sym (doubled f m) ∙ e ∙ doubled f n)
-
+-- Equal blocks, of half the floor's width or of width 1, are equal quotients.
 quotients : (f m n : ℕ) → m / 2 ^ width_after f ≡ n / 2 ^ width_after f → 2 * m / 2 ^ f ≡ 2 * n / 2 ^ f
 quotients zero m n e = omega arith
 quotients (suc f) m n e = doubled f m ∙ (rw half_of at e) ∙ sym (doubled f n)
@@ -31,15 +25,15 @@ quotients (suc f) m n e = doubled f m ∙ (rw half_of at e) ∙ sym (doubled f n
 pub low_above : (f n : ℕ) → 2 ^ f ≤ n → 2 ^ f ≤ low_end (width_after f) n
 low_above zero n h = omega arith
 low_above (suc f) n h =
-    let two : 2 ≤ n / 2 ^ f = (le-div_iff_mul-le (power f)).1 (omega (arith, pow-succ' 2 f)) in
+    let two : 2 ≤ n / 2 ^ f = (le-div_iff_mul-le (pow_pos f)).1 (omega (arith, pow-succ' 2 f)) in
     let up : 2 ^ f * 2 ≤ 2 ^ f * (n / 2 ^ f) = mul-le-mul_left (2 ^ f) two in
     rw half_of (omega (arith, pow-succ' 2 f))
 
--- What lies in the cell of a magnitude has its block.
-pub same_block : (w n m : ℕ) → low_end w n ≤ m → m < low_end w n + 2 ^ w → m / 2 ^ w ≡ n / 2 ^ w
-same_block w n m l u =
-    let c = mul_comm (2 ^ w) (n / 2 ^ w) in
-    div-eq_of_lt-le (2 ^ w) (omega arith) (omega (arith, add-mul (n / 2 ^ w) 1 (2 ^ w)))
+-- What lies in an aligned cell has its block.
+pub block_of : (w q n : ℕ) → 2 ^ w * q ≤ n → n < 2 ^ w * q + 2 ^ w → n / 2 ^ w ≡ q
+block_of w q n l u =
+    let c = mul_comm (2 ^ w) q in
+    div-eq_of_lt-le (2 ^ w) (omega arith) (omega (arith, add-mul q 1 (2 ^ w)))
 
 -- Equal quotients at a floor are equal at twice the floor.
 coarser : (f m n : ℕ) → 2 * m / 2 ^ f ≡ 2 * n / 2 ^ f → m / 2 ^ f ≡ n / 2 ^ f
@@ -51,13 +45,13 @@ coarser f m n e = halves m ∙ ap (λ q. q / 2) e ∙ sym (halves n)
 -- Equal blocks of a floor's width lie both below twice the floor, or both not.
 both_below : (f m n : ℕ) → m / 2 ^ f ≡ n / 2 ^ f → m < 2 ^ suc f → n < 2 ^ suc f
 both_below f m n e h =
-    let l : m / 2 ^ f < 2 = (div-lt_iff_lt-mul (power f)).1 (omega (arith, pow-succ' 2 f)) in
-    omega (arith, pow-succ' 2 f, (div-lt_iff_lt-mul {x = n} {y = 2} (power f)).0 (omega arith))
+    let l : m / 2 ^ f < 2 = (div-lt_iff_lt-mul (pow_pos f)).1 (omega (arith, pow-succ' 2 f)) in
+    omega (arith, pow-succ' 2 f, (div-lt_iff_lt-mul {x = n} {y = 2} (pow_pos f)).0 (omega arith))
 
 -- Twice two magnitudes of equal quotients lie less than the floor apart.
 close : (f m n : ℕ) → 2 * m / 2 ^ f ≡ 2 * n / 2 ^ f → 2 * m < 2 * n + 2 ^ f
 close f m n e =
-    omega (arith, lt-mul-div-succ (2 * m) (power f), mul-add (2 ^ f) (2 * m / 2 ^ f) 1, ap (λ q. 2 ^ f * q) e, mul-div-le (2 * n) (2 ^ f))
+    omega (arith, lt-mul-div-succ (2 * m) (pow_pos f), mul-add (2 ^ f) (2 * m / 2 ^ f) 1, ap (λ q. 2 ^ f * q) e, mul-div-le (2 * n) (2 ^ f))
 
 -- ---- Signs
 
@@ -82,37 +76,25 @@ pub quantized_high : (place : Placement) (f : ℕ) (c : ℤ) → 2 ^ f ≤ nat_a
 unfolding quantized
 quantized_high place f c h = rw (le-leb (2 ^ f) (nat_abs c) h) refl
 
--- Alike numbers are heard alike.
-pub quantized_alike : (place : Placement) (f : ℕ) (a b : ℤ) → Alike f a b → quantized place f a ≡ quantized place f b
-quantized_alike place f a b (inl h) = quantized_low place f a h.0 ∙ sym (quantized_low place f b h.1)
-quantized_alike place f a b (inr h) =
-    quantized_high place f a h.0
-    ∙ ap₂ (λ s q. signed s (place (2 ^ width_after f * q) (2 ^ width_after f))) h.2 (blocks f (nat_abs a) (nat_abs b) h.3)
-    ∙ sym (quantized_high place f b h.1)
-
 -- A number is alike with every number of its sign and block.
 signed_alike : (f : ℕ) (c : ℤ) (m : ℕ) → 2 ^ f ≤ nat_abs c → 2 ^ f ≤ m → m / 2 ^ width_after f ≡ nat_abs c / 2 ^ width_after f → Alike f c (signed (negative c) m)
 signed_alike f c m l h e =
-    inr (l, rw unsigned_abs_signed h, sym (negative_signed (negative c) m (omega (arith, power f))), rw unsigned_abs_signed (quotients f (nat_abs c) m (sym e)))
+    inr (l, rw unsigned_abs_signed h, sym (negative_signed (negative c) m (omega (arith, pow_pos f))), rw unsigned_abs_signed (quotients f (nat_abs c) m (sym e)))
 
 -- A number is alike with what is heard of it.
 pub quantized_like : (place : Placement) → InCell place → (f : ℕ) (c : ℤ) → Alike f c (quantized place f c)
 quantized_like place stays f c =
     elim (cases_lt (nat_abs c) (2 ^ f)) [
-      | inl l ↦ rw (quantized_low place f c l) (inl (l, power f))
+      | inl l ↦ rw (quantized_low place f c l) (inl (l, pow_pos f))
       | inr l ↦ rw (quantized_high place f c l) (high l)
     ]
   where
     high : 2 ^ f ≤ nat_abs c → Alike f c (signed (negative c) (place (low_end (width_after f) (nat_abs c)) (2 ^ width_after f)))
     high l =
-        let s = stays (low_end (width_after f) (nat_abs c)) (2 ^ width_after f) (power (width_after f)) in
-        signed_alike f c _ l (omega (arith, low_above f (nat_abs c) l)) (same_block (width_after f) (nat_abs c) _ s.0 s.1)
+        let s = stays (low_end (width_after f) (nat_abs c)) (2 ^ width_after f) (pow_pos (width_after f)) in
+        signed_alike f c _ l (omega (arith, low_above f (nat_abs c) l)) (block_of (width_after f) _ _ s.0 s.1)
 
 -- ---- Likeness
-
-pub alike_sym : (f : ℕ) (a b : ℤ) → Alike f a b → Alike f b a
-alike_sym f a b (inl h) = inl (h.1, h.0)
-alike_sym f a b (inr h) = inr (h.1, h.0, sym h.2, sym h.3)
 
 pub alike_trans : (f : ℕ) (a b c : ℤ) → Alike f a b → Alike f b c → Alike f a c
 alike_trans f a b c (inl h) (inl g) = inl (h.0, g.1)
@@ -144,10 +126,6 @@ nesting_up f (suc d) a b h = let e : f + suc d ≡ suc (f + d) = omega arith in 
 pub nesting : Nesting
 nesting f g a b l h = let e : f + (g - f) ≡ g = omega arith in rw e at (nesting_up f (g - f) a b h)
 
--- What is heard of a number of the range is in range.
-pub quantized_range : (place : Placement) → InCell place → (f : ℕ) (c : ℤ) → f ≤ 15 → nat_abs c < 2 ^ 15 → nat_abs (quantized place f c) < 2 ^ 15
-quantized_range place stays f c h l = alike_low 15 c (quantized place f c) (nesting f 15 c (quantized place f c) h (quantized_like place stays f c)) l
-
 -- The distance of two numbers of one sign is that of their magnitudes.
 pub distance : (a b : ℤ) → negative a ≡ negative b → nat_abs (b -ℤ a) ≡ (nat_abs b - nat_abs a) + (nat_abs a - nat_abs b)
 distance (pos m) (pos n) e = omega (arith, ints)
@@ -159,8 +137,8 @@ distance (negsuc m) (negsuc n) e = omega (arith, ints)
 pub alike_close : (f : ℕ) (a b : ℤ) → Alike f a b → 2 ^ f ≤ nat_abs a → SameSign b a × (2 * nat_abs (b -ℤ a) < 2 ^ f)
 alike_close f a b (inl h) l = absurd (omega arith)
 alike_close f a b (inr h) l = (
-  (omega (arith, power f), omega (arith, power f), sym h.2),
-  omega (arith, power f, distance a b h.2, close f (nat_abs a) (nat_abs b) h.3, close f (nat_abs b) (nat_abs a) (sym h.3)),
+  (omega (arith, pow_pos f), omega (arith, pow_pos f), sym h.2),
+  omega (arith, distance a b h.2, close f (nat_abs a) (nat_abs b) h.3, close f (nat_abs b) (nat_abs a) (sym h.3)),
 )
 
 -- ---- Resaving
@@ -180,7 +158,7 @@ resaved_like r (s ∷ rs) c =
 resaved_zero : (rs : List Resave) → resaved rs (pos 0) ≡ pos 0
 unfolding resaved
 resaved_zero [] = refl
-resaved_zero (r ∷ rs) = rw (quantized_low r.place r.floor (pos 0) (power r.floor)) (resaved_zero rs)
+resaved_zero (r ∷ rs) = rw (quantized_low r.place r.floor (pos 0) (pow_pos r.floor)) (resaved_zero rs)
 
 -- Below the coarsest floor a number is 0 in the end.
 resaved_low : (r : Resave) (rs : List Resave) (c : ℤ) → nat_abs c < 2 ^ coarsest r rs → resaved (r ∷ rs) c ≡ pos 0

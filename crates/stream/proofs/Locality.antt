@@ -1,6 +1,5 @@
 -- A stream sees no more of a number than its likeness at the floor.
 use Rattle.std.proofs.Common.{◌≡◌, ℕ, zero, suc, ◌+◌, ◌-◌, ◌*◌, ◌/◌, ◌^◌, ◌<◌, ◌≤◌, Bool, cond, not, ◌&&◌, ◌||◌, leb, ◌⊎◌, List, [], ◌∷◌, ◌++◌, get_or, ℤ, pos, nat_abs, sym, refl, ap, ◌∙◌, ap₂, inl, inr, arith}
-use native.Mathlib.Nat.{mul-div-mul_left}
 use Rattle.scan.specs.Tree.{descends}
 use Rattle.std.proofs.ByRecursion.{All-weaker}
 use Rattle.std.proofs.lemmas.Bool.{cases_lt, le-leb, lt-leb}
@@ -10,8 +9,8 @@ use Rattle.stream.specs.Numbers.{Table, Alike, magnitude_at, level, thresholds, 
 use Rattle.stream.specs.Passes.{Finding, is_found, some, due, reached_below, label_of, marks_to, findings, halved, upper, significant, skipped, labelled}
 use Rattle.stream.specs.Streams.{spelled, labels, refinement, refinements, refined, found_in, pass_symbols, pass_found, passes, symbols, header, level_told, stream}
 use Rattle.stream.proofs.Accepted.{level_is}
-use Rattle.stream.proofs.Cells.{double, half, cell_holds, low_halves}
-use Rattle.stream.proofs.Likeness.{nesting, alike_low}
+use Rattle.stream.proofs.Cells.{half, cell_holds, low_halves}
+use Rattle.stream.proofs.Likeness.{doubled, nesting, alike_low}
 use Rattle.stream.proofs.RoundTrip.{level_reached, below_level, start_state}
 use Rattle.stream.proofs.States.{CellOf, State, found_in_state, pass_state}
 use Rattle.stream.proofs.Terms.{cell_at}
@@ -58,11 +57,8 @@ half_alike i a b e = elim (low_halves i a) [
   | inr h ↦ le-leb _ _ (omega (arith, cell_holds i a)) ∙ sym (le-leb _ _ (omega (arith, low, cell_holds i b)))
 ]
   where
-    doubled : (n : ℕ) → 2 * n / 2 ^ suc i ≡ n / 2 ^ i
-    doubled n = ap (λ x. 2 * n / x) (double i) ∙ mul-div-mul_left n (2 ^ i) (omega arith)
-
     low : low_end i a ≡ low_end i b
-    low = ap (λ q. 2 ^ i * q) (sym (doubled a) ∙ e ∙ doubled b)
+    low = ap (λ q. 2 ^ i * q) (sym (doubled i a) ∙ e ∙ doubled i b)
 
 upper_alike : (k : ℕ) (t u : List ℤ) (i : ℕ) (x : Finding) → CellOf k t (suc i) (suc i) x → AllAlike k (suc i) t u → upper t x ≡ upper u x
 unfolding upper cell_at

@@ -1,11 +1,12 @@
 -- The marks of the coder's dominant pass: each is decided by those before it, and the places that it finds are those that reach the threshold first.
 use Rattle.std.proofs.Common.{◌≡◌, ℕ, zero, suc, ◌+◌, ◌*◌, ◌/◌, ◌^◌, ◌<◌, ◌≤◌, Bool, true, false, cond, not, ◌&&◌, ◌||◌, eqb, leb, List, [], ◌∷◌, ◌++◌, map, length, get_or, take, ℤ, pos, sym, refl, ap, ◌∙◌, ap₂, inl, inr, add-zero, zero-add, arith}
+use Rattle.std.proofs.Math.Bool.{or_assoc}
 use native.Mathlib.Nat.{div-eq_of_lt-le}
 use Rattle.scan.specs.Tree.{descends}
 use Rattle.std.proofs.lemmas.List.{append_assoc, length_push, take_all, take-append-le, get_or-take, get_or_push, map-append}
 use Rattle.std.proofs.lemmas.Bool.{cases_Bool, cases_eq, or_from, or_left, and_from, and_parts, ne_eqb, eq-eqb, cond_both, not_from_false, not-true, leb-true, leb-false, both_ways, false≢true, true≢false}
 use Rattle.stream.proofs.Somes.{some_false, some_none}
-use Rattle.stream.proofs.Terms.{MarkOk, Coherent, Early, cell_at, fresh_to}
+use Rattle.stream.proofs.Terms.{MarkOk, Early, cell_at, fresh_to}
 use Rattle.stream.specs.Laws.{SideExponent}
 use Rattle.stream.specs.Numbers.{negative, magnitude_at}
 use Rattle.stream.specs.Passes.{Label, significant, zerotree_root, isolated_zero, Mark, skipped, labelled, Finding, has_children, is_root, is_found, is_fresh, under_root, due, reached_below, label_of, marks_to, findings}
@@ -36,17 +37,13 @@ findings_append j p (labelled (significant s) ∷ ms) ns = rw (← shift p (leng
 findings_append j p (labelled zerotree_root ∷ ms) ns = rw (← shift p (length ms)) (findings_append j (suc p) ms ns)
 findings_append j p (labelled isolated_zero ∷ ms) ns = rw (← shift p (length ms)) (findings_append j (suc p) ms ns)
 
-or_assoc : (x y z : Bool) → ((x || y) || z) ≡ (x || (y || z))
-or_assoc true y z = refl
-or_assoc false y z = refl
-
 pub is_found_append : (xs ys : List Finding) (p : ℕ) → is_found (xs ++ ys) p ≡ (is_found xs p || is_found ys p)
 unfolding is_found
 is_found_append [] ys p = refl
 is_found_append (x ∷ xs) ys p = ap (λ (b : Bool). eqb x.place p || b) (is_found_append xs ys p) ∙ sym (or_assoc (eqb x.place p) (is_found xs p) (is_found ys p))
 
 -- Nothing is found before the first place.
-found_before : (j q : ℕ) (ms : List Mark) (p : ℕ) → p < q → is_found (findings j q ms) p ≡ false
+pub found_before : (j q : ℕ) (ms : List Mark) (p : ℕ) → p < q → is_found (findings j q ms) p ≡ false
 unfolding is_found findings
 found_before j q [] p h = refl
 found_before j q (skipped ∷ ms) p h = found_before j (suc q) ms p (omega arith)
@@ -115,17 +112,6 @@ mark_at k j t earlier p n h =
     sym (get_or-take (suc p) (marks_to k t j earlier n) p skipped (omega arith))
     ∙ ap (λ (ms : List Mark). get_or ms p skipped) (take_marks k j t earlier (suc p) n h ∙ marks_suc k j t earlier p)
     ∙ get_or_push (marks_to k t j earlier p) _ skipped p (length_marks k j t earlier p)
-
--- The coder's marks obey the rule of the walk.
-pub marks_coherent : (k j : ℕ) (t : List ℤ) (earlier : List Finding) (n : ℕ) → Coherent k earlier (marks_to k t j earlier n)
-marks_coherent k j t earlier n p h =
-    let l : p < n = omega (arith, length_marks k j t earlier n) in
-    rw (take_marks k j t earlier p n (omega arith), mark_at k j t earlier p n l)
-    (mark_ok (due earlier (marks_to k t j earlier p) p))
-  where
-    mark_ok : (b : Bool) → MarkOk k p b (cond b (labelled (label_of k t j earlier p)) skipped)
-    mark_ok true = label_ok k j t earlier p
-    mark_ok false = tt
 
 -- Below a root that the coder gives, nothing reaches the threshold.
 root_clear : (k j : ℕ) (t : List ℤ) (earlier : List Finding) (ms : List Mark) (p : ℕ)

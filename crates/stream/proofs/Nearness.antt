@@ -1,7 +1,6 @@
 -- What is heard of cells is near the numbers: the middle of a cell lies at most half the width from what the cell holds.
-use Rattle.std.proofs.Common.{◌≡◌, ℕ, suc, ◌/◌, ◌^◌, ◌<◌, ◌≤◌, true, false, eqb, List, [], ◌∷◌, get_or, ℤ, pos, nat_abs, sym, refl, ap, ◌∙◌, inl, inr, mul-le-mul_left, le-div_iff_mul-le, arith}
+use Rattle.std.proofs.Common.{◌≡◌, ℕ, suc, ◌^◌, ◌<◌, ◌≤◌, true, false, eqb, List, [], ◌∷◌, get_or, ℤ, pos, nat_abs, sym, refl, ap, ◌∙◌, inl, inr, arith}
 use native.Mathlib.Nat.{pow-le-pow_right, pow-succ'}
-use Rattle.std.proofs.lemmas.Nat.{pow_pos}
 use Rattle.std.proofs.lemmas.Bool.{cases_Bool, cond-true, cond-false, eqb-true, or_parts, both_ways}
 use Rattle.std.specs.List.{AllByRecursion as All}
 use Rattle.stream.specs.Laws.{Near}
@@ -20,29 +19,23 @@ near_coarser j i c v h n = by (pow-le-pow_right {n = 2} (omega arith) h) n
     by h (inl l) = inl (l.0, omega (arith, pow-succ' 2 j, pow-succ' 2 i))
     by h (inr s) = inr (s.0, omega arith)
 
--- A cell that holds a number of its width or more does not begin at 0.
-low_positive : (w n : ℕ) → 2 ^ w ≤ n → 1 ≤ low_end w n
-low_positive w n h =
-    let one : 1 ≤ n / 2 ^ w = (le-div_iff_mul-le (pow_pos w)).1 (omega arith) in
-    omega (arith, mul-le-mul_left (2 ^ w) one, pow_pos w)
-
 -- The middle of the cell of a number.
 pub near_middle : (w j : ℕ) (c : ℤ) → w ≤ j → 2 ^ w ≤ nat_abs c → Near j c (signed (negative c) (middle (low_end w (nat_abs c)) (2 ^ w)))
 near_middle w j c h l =
     let m = middle (low_end w (nat_abs c)) (2 ^ w) in
-    let one : 1 ≤ m = omega (arith, low_positive w (nat_abs c) l) in
+    let one : 1 ≤ m = omega (arith, cell_holds w (nat_abs c)) in
     let a = unsigned_abs_signed (negative c) m in
     let s = negative_signed (negative c) m one in
     inr (
-      (omega arith, omega (arith, pow_pos w), s),
-      omega (arith, a, distance c (signed (negative c) m) (sym s), cell_holds w (nat_abs c), pow_pos w, pow-le-pow_right {n = 2} (omega arith) h),
+      (omega arith, omega arith, s),
+      omega (arith, a, distance c (signed (negative c) m) (sym s), cell_holds w (nat_abs c), pow-le-pow_right {n = 2} (omega arith) h),
     )
 
 -- A finding in closed form, of a width of at most 2 ^ j.
 abbrev pub Cell : List ℤ → ℕ → Finding → Type 0
 Cell t j x = (w : ℕ) × (w ≤ j) × (x ≡ cell_at t w x.place)
 
-heard_none : (place : Placement) (found : List Finding) (p : ℕ) → is_found found p ≡ false → heard_at place found p ≡ pos 0
+pub heard_none : (place : Placement) (found : List Finding) (p : ℕ) → is_found found p ≡ false → heard_at place found p ≡ pos 0
 unfolding is_found heard_at
 heard_none place [] p h = refl
 heard_none place (x ∷ xs) p h = let s = or_parts _ _ h in cond-false _ _ _ s.0 ∙ heard_none place xs p s.1

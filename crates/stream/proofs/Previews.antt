@@ -1,5 +1,6 @@
 -- A preview of the first bits of a stream is near the table: which places are found at each cut, and in which cells.
 use Rattle.std.proofs.Common.{◌≡◌, ℕ, zero, suc, ◌+◌, ◌-◌, ◌^◌, ◌<◌, ◌≤◌, Bool, true, false, not, ◌||◌, leb, List, [], ◌∷◌, ◌++◌, length, get_or, take, drop, ℤ, pos, sym, refl, ap, ◌∙◌, inl, inr, arith, length-append}
+use native.Mathlib.Nat.{pow-succ'}
 use Rattle.std.proofs.lemmas.List.FromFn.{get_or-map-range_with_len}
 use Rattle.std.proofs.ByRecursion.{All-weaker}
 use Rattle.std.proofs.lemmas.List.{append_assoc, length-take, nil_from_length, take-append-drop, take-append-le}
@@ -10,14 +11,16 @@ use Rattle.stream.specs.Numbers.{Table, middle, magnitude_at, level, thresholds}
 use Rattle.stream.specs.Passes.{Finding, is_found, marks_to, findings, halved, upper}
 use Rattle.stream.specs.Reading.{cut, Outcome, heard, is_none, after_subordinate, after_labels, after_dominant, go_on, read_pass, read_passes, heard_at, numbers_heard, previewed}
 use Rattle.stream.specs.Streams.{Symbol, spelled, labels, refinements, refined, found_in, pass_symbols, pass_found, passes, symbols, header, level_told, stream, longest_run}
-use Rattle.stream.proofs.Cells.{double, halved_cell_lem}
-use Rattle.stream.proofs.Cuts.{take_over, run_over, run_within, run_empty, last_append, last_from, from_run, from_pass, length_refinements, refine_some, cut_marks}
+use Rattle.stream.proofs.Cells.{halved_cell_lem, length_refinements}
+use Rattle.stream.proofs.Cuts.{take_over, run_over, run_within, run_empty, last_append, last_from, from_run, from_pass, refine_some, cut_marks}
 use Rattle.stream.proofs.Dominant.{read_marks, no_missed, spelled_append, findings_append, is_found_append}
 use Rattle.stream.proofs.Header.{length_header, reading_header}
 use Rattle.stream.proofs.Levels.{thresholds_append, levels}
+use Rattle.stream.proofs.Likeness.{half_of}
 use Rattle.stream.proofs.Marks.{take_marks}
 use Rattle.stream.proofs.Nearness.{near_coarser, Cell, cells_near}
 use Rattle.stream.proofs.RoundTrip.{Reached, reached_found, pass_over, level_reached, start_state}
+use Rattle.stream.proofs.Shapes.{all_parts}
 use Rattle.stream.proofs.States.{CellOf, State, found_in_state, refined_found, pass_state}
 use Rattle.stream.proofs.Terms.{cell_at, Early}
 
@@ -27,10 +30,6 @@ AllNear k t j found = (p : ℕ) → p < 4 ^ k → Near j (get_or t p (pos 0)) (h
 
 -- ---- What is found, near
 
-all_front : (P : Finding → Type 0) (xs ys : List Finding) → All P (xs ++ ys) → All P xs
-all_front P [] ys a = tt
-all_front P (x ∷ xs) ys a = (a.0, all_front P xs ys a.1)
-
 cells_within : (k : ℕ) (t : List ℤ) (w l j : ℕ) (xs : List Finding) → w ≤ j → All (CellOf k t w l) xs → All (Cell t j) xs
 cells_within k t w l j xs h a = All-weaker (CellOf k t w l) (Cell t j) (λ x c. (w, h, c.is)) xs a
 
@@ -39,17 +38,14 @@ early_near : (k j : ℕ) (t : List ℤ) (found : List Finding) → All (Cell t j
 early_near k j t found a e =
     cells_near k j t found a
     (λ p h f. leb-true _ _ (sym (e p h) ∙ f))
-    (λ p h f. omega (arith, leb-false _ _ (sym (e p h) ∙ f), double j))
-
-last_of : (j : ℕ) → suc j - 1 ≡ j
-last_of j = omega arith
+    (λ p h f. omega (arith, leb-false _ _ (sym (e p h) ∙ f), pow-succ' 2 j))
 
 -- Between passes.
 state_near : (k l : ℕ) (t : List ℤ) (found : List Finding) → State k t (l - 1) l found → AllNear k t (l - 1) found
 state_near k zero t found s = early_near k 0 t found (cells_within k t 0 0 0 found (omega arith) s.cells) s.early
 state_near k (suc j) t found s =
-    rw (last_of j) (cells_near k j t found (cells_within k t (suc j - 1) (suc j) j found (omega arith) s.cells)
-    (λ p h f. omega (arith, leb-true (2 ^ suc j) (magnitude_at t p) (sym (s.early p h) ∙ f), double j))
+    rw (half_of j) (cells_near k j t found (cells_within k t (suc j - 1) (suc j) j found (omega arith) s.cells)
+    (λ p h f. omega (arith, leb-true (2 ^ suc j) (magnitude_at t p) (sym (s.early p h) ∙ f), pow-succ' 2 j))
     (λ p h f. leb-false _ _ (sym (s.early p h) ∙ f)))
 
 -- The places found up to one place are the first of those found up to a later one.
@@ -73,7 +69,7 @@ dominant_near k j t earlier i side s h =
     let whole : found_in k t j earlier ≡ found ++ f.0 =
     ap (λ ys. earlier ++ ys) f.1 ∙ sym (append_assoc earlier (findings j 0 (marks_to k t j earlier i)) f.0) in
     cells_near k j t found
-    (all_front (Cell t j) found f.0 (rw whole at (cells_within k t j j j (found_in k t j earlier) (omega arith) r.cells)))
+    (all_parts (Cell t j) found f.0 (rw whole at (cells_within k t j j j (found_in k t j earlier) (omega arith) r.cells))).0
     (λ p l g. leb-true _ _ (sym (r.early p l) ∙ ap (λ xs. is_found xs p) whole ∙ is_found_append found f.0 p ∙ or_left _ _ g))
     (λ p l g. leb-false _ _ (sym (s.early p l) ∙ (or_parts _ _ (sym (is_found_append earlier _ p) ∙ g)).0))
 
@@ -210,7 +206,7 @@ unfolding passes thresholds spelled
 passes_heard k count f zero m i t earlier more side s reached h = heard_nothing k count (f + 0) m i t earlier more [] s h (omega (arith, length-take m (spelled [])))
 passes_heard k count f (suc n) m i t earlier more side s reached h =
     let e : f + suc n ≡ suc (f + n) = omega arith in
-    let st : State k t (f + n) (suc (f + n)) earlier = rw (e, last_of (f + n)) at s in
+    let st : State k t (f + n) (suc (f + n)) earlier = rw (e, half_of (f + n)) at s in
     let rest = passes k t (thresholds f n) (pass_found k t (f + n) earlier) in
     elim (cases_lt 0 (length (take m (spelled (pass_symbols k t (f + n) earlier ++ rest))))) [
       | inl l ↦ pass_heard k count (f + n) m i t earlier (thresholds f n ++ more) rest side st (reached (f + n) (omega arith)) (omega arith) l

@@ -1,12 +1,14 @@
 -- What every reading leaves between passes, whatever its bits were: cells of one width, aligned to it, at different places.
 use Rattle.std.proofs.Common.{◌≡◌, ℕ, suc, ◌+◌, ◌*◌, ◌^◌, ◌<◌, ◌≤◌, Bool, true, false, eqb, List, [], ◌∷◌, ◌++◌, length, get_or, sym, refl, ◌∙◌, inl, inr, mul-one, mul-add, arith, pow_mono}
+use native.Mathlib.Nat.{pow-succ'}
 use Rattle.std.proofs.ByRecursion.{All-append, All-weaker}
-use Rattle.std.proofs.lemmas.Bool.{cases_Bool, or_cases, or_from, or_left, or_right, eq-eqb, ne_eqb, eqb-true, both_ways, false≢true}
+use Rattle.std.proofs.lemmas.Bool.{cases_Bool, or_cases, or_from, or_left, or_right, eq-eqb, eqb-true, both_ways, false≢true}
 use Rattle.std.specs.List.{AllByRecursion as All}
 use Rattle.stream.specs.Passes.{significant, zerotree_root, isolated_zero, Mark, skipped, labelled, Finding, is_found, is_fresh, findings, halved}
 use Rattle.stream.specs.Reading.{refine_all}
-use Rattle.stream.proofs.Cells.{double, twice}
+use Rattle.stream.proofs.Cells.{twice}
 use Rattle.stream.proofs.Dominant.{is_found_append, is_found_findings}
+use Rattle.stream.proofs.Marks.{found_before}
 
 -- ---- All of a list
 
@@ -82,17 +84,11 @@ findings_marked j p (labelled (significant s) ∷ ms) =
 findings_marked j p (labelled zerotree_root ∷ ms) = fresh_later j p _ ms _ (findings_marked j (suc p) ms)
 findings_marked j p (labelled isolated_zero ∷ ms) = fresh_later j p _ ms _ (findings_marked j (suc p) ms)
 
--- Later findings are at later places.
-not_among : (j p q : ℕ) (ms : List Mark) (xs : List Finding) → q < p → All (FreshAt j p ms) xs → is_found xs q ≡ false
-unfolding is_found
-not_among j p q ms [] h a = refl
-not_among j p q ms (x ∷ xs) h a = or_from _ _ (ne_eqb _ _ (λ e. omega (arith, a.0.at_place))) (not_among j p q ms xs h a.1)
-
 findings_distinct : (j p : ℕ) (ms : List Mark) → Distinct (findings j p ms)
 unfolding findings
 findings_distinct j p [] = tt
 findings_distinct j p (skipped ∷ ms) = findings_distinct j (suc p) ms
-findings_distinct j p (labelled (significant s) ∷ ms) = (not_among j (suc p) p ms _ (omega arith) (findings_marked j (suc p) ms), findings_distinct j (suc p) ms)
+findings_distinct j p (labelled (significant s) ∷ ms) = (found_before j (suc p) ms p (omega arith), findings_distinct j (suc p) ms)
 findings_distinct j p (labelled zerotree_root ∷ ms) = findings_distinct j (suc p) ms
 findings_distinct j p (labelled isolated_zero ∷ ms) = findings_distinct j (suc p) ms
 
@@ -106,7 +102,7 @@ dominant_shaped k j earlier ms h n new s = record {
 }
   where
     old : (x : Finding) → ShapeOf k j (suc j) x → ShapeOf k j j x
-    old x c = record { wide = c.wide; part = c.part; aligned = c.aligned; above = omega (arith, c.above, double j); inside = c.inside; within = c.within }
+    old x c = record { wide = c.wide; part = c.part; aligned = c.aligned; above = omega (arith, c.above, pow-succ' 2 j); inside = c.inside; within = c.within }
 
     fresh : (x : Finding) → FreshAt j 0 ms x → ShapeOf k j j x
     fresh x c = record {
@@ -114,7 +110,7 @@ dominant_shaped k j earlier ms h n new s = record {
       part = 1;
       aligned = c.lowest ∙ sym (mul-one (2 ^ j));
       above = omega (arith, c.lowest);
-      inside = omega (arith, c.lowest, double j, pow_mono {i = suc j} {j = 15} (omega arith));
+      inside = omega (arith, c.lowest, pow-succ' 2 j, pow_mono {i = suc j} {j = 15} (omega arith));
       within = omega (arith, c.at_place, c.stands);
     }
 
@@ -126,19 +122,19 @@ dominant_shaped k j earlier ms h n new s = record {
 pub halved_shape : (k i l : ℕ) (x : Finding) (b : Bool) → ShapeOf k (suc i) l x → ShapeOf k i l (halved x b)
 unfolding halved
 halved_shape k i l x true c = record {
-  wide = omega (arith, c.wide, double i);
+  wide = omega (arith, c.wide, pow-succ' 2 i);
   part = 2 * c.part + 1;
-  aligned = omega (arith, c.wide, double i, c.aligned, twice i c.part, mul-add (2 ^ i) (2 * c.part) 1);
+  aligned = omega (arith, c.wide, pow-succ' 2 i, c.aligned, twice i c.part, mul-add (2 ^ i) (2 * c.part) 1);
   above = omega (arith, c.above);
-  inside = omega (arith, c.wide, double i, c.inside);
+  inside = omega (arith, c.wide, pow-succ' 2 i, c.inside);
   within = c.within;
 }
 halved_shape k i l x false c = record {
-  wide = omega (arith, c.wide, double i);
+  wide = omega (arith, c.wide, pow-succ' 2 i);
   part = 2 * c.part;
   aligned = omega (arith, c.aligned, twice i c.part);
   above = omega (arith, c.above);
-  inside = omega (arith, double i, c.inside);
+  inside = omega (arith, pow-succ' 2 i, c.inside);
   within = c.within;
 }
 

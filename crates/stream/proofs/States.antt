@@ -1,5 +1,6 @@
 -- The found places between passes, in terms of the table alone.
 use Rattle.std.proofs.Common.{◌≡◌, ℕ, zero, suc, ◌-◌, ◌^◌, ◌<◌, ◌≤◌, Bool, true, false, not, ◌&&◌, ◌||◌, leb, List, [], ◌∷◌, ◌++◌, map, ℤ, sym, refl, ap, ◌∙◌, arith}
+use native.Mathlib.Nat.{pow-succ'}
 use Rattle.std.proofs.ByRecursion.{All-append, All-weaker}
 use Rattle.std.proofs.lemmas.List.{map-append}
 use Rattle.std.proofs.lemmas.Bool.{cond_both, and_parts, leb-true, le-leb}
@@ -8,7 +9,7 @@ use Rattle.stream.specs.Laws.{SideExponent}
 use Rattle.stream.specs.Numbers.{magnitude_at, width_after}
 use Rattle.stream.specs.Passes.{Finding, is_found, marks_to, findings, halved, upper}
 use Rattle.stream.specs.Streams.{refined, found_in, pass_found}
-use Rattle.stream.proofs.Cells.{double, halved_cell_lem}
+use Rattle.stream.proofs.Cells.{halved_cell_lem}
 use Rattle.stream.proofs.Dominant.{findings_fresh, marks_fresh, is_found_append, is_found_findings}
 use Rattle.stream.proofs.Terms.{cell_at, Early, fresh_to}
 
@@ -48,13 +49,13 @@ found_in_state k t j earlier s st = record { cells = cells; early = early }
   where
     cells : All (CellOf k t j j) (earlier ++ findings j 0 (marks_to k t j earlier (4 ^ k)))
     cells = All-append (CellOf k t j j) earlier _
-        (All-weaker (CellOf k t j (suc j)) (CellOf k t j j) (λ x c. record { is = c.is; within = c.within; reached = omega (arith, c.reached, double j) }) earlier st.cells)
+        (All-weaker (CellOf k t j (suc j)) (CellOf k t j j) (λ x c. record { is = c.is; within = c.within; reached = omega (arith, c.reached, pow-succ' 2 j) }) earlier st.cells)
         (rw (findings_fresh k j t earlier s st.early) (fresh_cells k t j (4 ^ k) (omega arith)))
 
     early : Early k t j (earlier ++ findings j 0 (marks_to k t j earlier (4 ^ k)))
     early p l =
         rw (is_found_append earlier _ p, is_found_findings j (marks_to k t j earlier (4 ^ k)) p, marks_fresh k j t earlier p s l, st.early p l)
-        (found_or_fresh (leb (2 ^ suc j) (magnitude_at t p)) (leb (2 ^ j) (magnitude_at t p)) (λ e. le-leb _ _ (omega (arith, leb-true _ _ e, double j))))
+        (found_or_fresh (leb (2 ^ suc j) (magnitude_at t p)) (leb (2 ^ j) (magnitude_at t p)) (λ e. le-leb _ _ (omega (arith, leb-true _ _ e, pow-succ' 2 j))))
 
 pub refined_found : (t : List ℤ) (xs : List Finding) (p : ℕ) → is_found (refined t xs) p ≡ is_found xs p
 unfolding is_found refined halved
