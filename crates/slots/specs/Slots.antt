@@ -38,6 +38,11 @@ abbrev pub Hears : Type 0 → ℕ → Outcome → List Cell → Result Decoded S
 Hears enough k outcome cells (Ok decoded) = enough × Decodes k outcome cells (Ok decoded)
 Hears enough k outcome cells (Err fault) = TurnedAway enough (λ f. Decodes k outcome cells (Err f)) fault
 
+-- A source that is to be a whole stream, of this outcome, is heard, and these are then its numbers; or it is turned away.
+abbrev pub HearsWhole : Type 0 → Result (List ℤ) StreamFault → List ℤ → Result (Unit {0}) SlotFault → Type 0
+HearsWhole enough outcome numbers (Ok u) = enough × (outcome ≡ Ok numbers)
+HearsWhole enough outcome numbers (Err fault) = TurnedAway enough (λ f. outcome ≡ Err f) fault
+
 -- A stream of this outcome is taken, and the slot's numbers are then those of the stream; or it is turned away.
 abbrev pub Takes : {Next Slot : Type 0} → Type 0 → Result (List ℤ) StreamFault → List ℤ → Result Next (Refused Slot) → Type 0
 Takes enough outcome numbers (Ok next) = enough × (outcome ≡ Ok numbers)

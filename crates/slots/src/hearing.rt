@@ -1,6 +1,6 @@
-ghost use Rattle.std.specs.Prelude.{◌≡◌, ◌^◌, Ok, Err, MatchResult};
+ghost use Rattle.std.specs.Prelude.{◌^◌};
 ghost use Rattle.decoder.specs.Cells.{cell_numbers, StandPast};
-ghost use Rattle.slots.specs.Slots.{Hears, Suffices, TurnedAway};
+ghost use Rattle.slots.specs.Slots.{Hears, HearsWhole, Suffices};
 ghost use Rattle.stream.specs.Numbers.{middle};
 ghost use Rattle.stream.specs.Reading.{loaded, reading};
 
@@ -36,7 +36,7 @@ pub fn hear_whole<S: Source, R>(
     cells: &mut [Cell],
     found: &mut [u16],
 ) -> Result<(), SlotFault>
-    ensures hears { let enough = Suffices side.exponent table.now cells.old found.old in let outcome = loaded middle side.exponent (S.Source.bits source.now) in MatchResult result (λ _. enough × (outcome ≡ Ok (cell_numbers side.exponent cells.new))) (TurnedAway enough (λ fault. outcome ≡ Err fault)) }
+    ensures hears { HearsWhole (Suffices side.exponent table.now cells.old found.old) (loaded middle side.exponent (S.Source.bits source.now)) (cell_numbers side.exponent cells.new) result }
     ensures cells_stand { StandPast (4 ^ side.exponent) cells.old cells.new }
     ensures found_stands { StandPast (4 ^ side.exponent) found.old found.new }
 {
