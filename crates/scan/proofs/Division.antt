@@ -1,8 +1,8 @@
 -- Children and descendants by division.
-use Rattle.std.proofs.Common.{◌≡◌, ℕ, zero, suc, ◌+◌, ◌*◌, ◌/◌, ◌^◌, ◌<◌, ◌≤◌, true, ◌⊎◌, sym, ap, ◌∙◌, inl, inr, arith}
+use Rattle.std.proofs.Common.{◌≡◌, ℕ, zero, suc, ◌+◌, ◌*◌, ◌/◌, ◌^◌, ◌<◌, ◌≤◌, true, ◌⊎◌, sym, inl, inr, arith}
 use native.Mathlib.Nat.{one-le-pow, pow-succ', pow-le-pow_right}
 use Rattle.std.proofs.lemmas.Bool.{cases_lt, eq-eqb, eqb-true, lt-ltb, ltb-true, and_from, and_parts, or_cases, or_left, or_right, false≢true}
-use Rattle.std.proofs.lemmas.Nat.{mul-pow, pow-add}
+use Rattle.std.proofs.lemmas.Nat.{mul-pow}
 use Rattle.scan.specs.Tree.{Child, Descendant, among_quarters, descends, ChildByDivision, HasChildrenByDivision, DescendsByDivision}
 use Rattle.scan.specs.Tree.Descendant.{direct, deeper}
 
@@ -16,8 +16,8 @@ pub places_most_lem : (k : ℕ) → k ≤ 6 → 4 ^ k ≤ 4096
 places_most_lem k h = pow-le-pow_right {n = 4} (omega arith) h
 
 -- The places of a table are its rows times their places.
-pub places_by_bits : (k : ℕ) → 2 ^ (2 * k) ≡ 4 ^ k
-places_by_bits k = ap (λ (n : ℕ). 2 ^ n) (omega arith) ∙ pow-add 2 k k ∙ sym (mul-pow 2 2 k)
+pub places_by_rows : (k : ℕ) → 2 ^ k * 2 ^ k ≡ 4 ^ k
+places_by_rows k = sym (mul-pow 2 2 k)
 
 -- Child by quarter, and back.
 pub child_by_division : ChildByDivision

@@ -37,6 +37,6 @@ impl Side {
         ensures count { result ≡ 4 ^ self.exponent }
         ensures most { result ≤ 4096 }
     {
-        1 << (2 * self.exponent)
+        self.length() * self.length()
     }
 }

@@ -17,7 +17,7 @@ impl Side {
     pub fn parent(self, place: usize) -> Option<usize>
         ensures { MatchOption result ((p : ℕ) → Child self.exponent p place → ⊥) (λ p. Child self.exponent p place) }
     {
-        if !(1..self.places()).contains(&place) {
+        if place == 0 || place >= self.places() {
             return None;
         }
         Some(place / 4)
