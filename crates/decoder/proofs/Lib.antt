@@ -16,4 +16,3 @@ pub mod Flags
 pub mod Heirs
 pub mod Roots
 pub mod Spelling
-pub mod Turns

@@ -48,8 +48,8 @@ pub fn decode<S: Source>(
     let found = &mut found[..places];
     clear_cells(cells);
     let mut machine = Machine::start(number(source, 3, 4));
-    for (index, bit) in source.iter().enumerate().skip(7) {
-        machine.take(side, bit, index, cells, found)?;
+    for (index, bit) in source.range(7..count).enumerate() {
+        machine.take(side, bit, index + 7, cells, found)?;
     }
     Ok(Decoded {
         whole: machine.whole,
