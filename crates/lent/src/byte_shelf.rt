@@ -19,16 +19,18 @@ impl<L: Layout> Shelf for ByteShelf<'_, L> {
     }
 
     fn put(&mut self, bit: bool) -> Result<(), Full> {
-        if self.count >= Self::room(self) {
+        let count = self.count();
+        if count >= Self::room(self) {
             return Err(Full);
         }
-        L::set(self.bytes, self.count, bit);
-        self.count += 1;
+        L::set(self.bytes, count, bit);
+        self.count = count + 1;
         Ok(())
     }
 
+    #[tactic(auto, using(crate::proofs::Firsts::cut_lent))]
     fn cut(&mut self, count: usize) -> Result<(), Beyond> {
-        if count > self.count {
+        if count > self.count() {
             return Err(Beyond);
         }
         self.count = count;

@@ -1,4 +1,4 @@
-ghost use Rattle.std.specs.Prelude.{◌≡◌, ◌≤◌, min, length};
+ghost use Rattle.std.specs.Prelude.{◌≡◌, min, length};
 ghost use Rattle.lent.specs.Layouts.{lent_bits};
 
 use super::layout::Layout;
@@ -8,25 +8,28 @@ use std::convert::AsSlice;
 
 // Bytes that the host lends, as a source of bits: the first `count` bits that lie in them, at most as many as they have room for.
 #[derive(Drop)]
-pub struct LentBits<B: AsSlice<u8>, L: Layout> {
+pub struct LentBits<B, L> {
     layout: L,
     pub(crate) bytes: B,
     pub(crate) count: usize,
-    ghost within: { count ≤ L.Layout.space (length (B.AsSlice.items bytes)) },
 }
 
-// A copy is the same source. (By hand, since no derive holds over the ghost field.)
-impl<B: AsSlice<u8> + Copy, L: Layout> Clone for LentBits<B, L> {
-    ghost is_clone = { λ s c. c ≡ s };
+// A clone counts as many bits, in clones of the layout and of the loan.
+impl<B: Clone, L: Clone> Clone for LentBits<B, L> {
+    ghost is_clone = { λ s c. L.Clone.is_clone s.layout c.layout × B.Clone.is_clone s.bytes c.bytes × (c.count ≡ s.count) };
 
-    ghost is_infallible = { λ _. Unit {0} };
+    ghost is_infallible = { λ s. L.Clone.is_infallible s.layout × B.Clone.is_infallible s.bytes };
 
     fn clone(&self) -> Result<Self, AllocError> {
-        Ok(*self)
+        Ok(LentBits {
+            layout: self.layout.clone()?,
+            bytes: self.bytes.clone()?,
+            count: self.count,
+        })
     }
 }
 
-impl<B: AsSlice<u8> + Copy, L: Layout> Copy for LentBits<B, L> {}
+impl<B: Copy, L: Copy> Copy for LentBits<B, L> {}
 
 impl<B: AsSlice<u8>, L: Layout> LentBits<B, L> {
     // A count above the room is taken as the room.
@@ -46,11 +49,12 @@ impl<B: AsSlice<u8>, L: Layout> Source for LentBits<B, L> {
     ghost bits = { λ s. lent_bits L.Layout.space L.Layout.at (B.AsSlice.items s.bytes) s.count };
 
     fn count(&self) -> usize {
-        self.count
+        self.count.min(L::room(self.bytes.as_slice().len()))
     }
 
+    #[tactic(auto, using(crate::proofs::Firsts::told_lent, crate::proofs::Firsts::length_lent))]
     fn bit(&self, index: usize) -> Option<bool> {
-        if index >= self.count {
+        if index >= self.count() {
             return None;
         }
         Some(L::get(self.bytes.as_slice(), index))

@@ -10,7 +10,7 @@ use Rattle.packing.specs.Texts.{bits_of}
 use Rattle.packing.specs.declared.fault.PackFault.{PackFault}
 use Rattle.packing.specs.declared.fault.PackFault.TheVariants.{Text, Shelf}
 
-module _ {a l : _} (text before after : List ℕ) (start end : LentBits (MutBor (List ℕ)) Packed a l)
+module _ (text before after : List ℕ) (start end : LentBits (MutBor (List ℕ)) Packed)
     (lent : start.bytes.now ≡ before) (empty : start.count ≡ 0)
     (stands : end.bytes.ghost_name ∷ packed_past end.bytes.now ≡ start.bytes.ghost_name ∷ packed_past start.bytes.now)
     (back : start.bytes.ghost_name ≡ end.bytes.ghost_name → after ≡ end.bytes.now) where

@@ -35,10 +35,10 @@ TextRefused text TooLong = 65536 < length text
 TextRefused text NoDigit = (length text ≤ 65536) × (only_digits (digits_in text) ≡ false)
 
 -- The bits of a source of digits over lent bytes.
-abbrev pub source_bits : {a l : _} → LentBits (Bor (List ℕ)) Digits a l → List Bool
+abbrev pub source_bits : LentBits (Bor (List ℕ)) Digits → List Bool
 source_bits s = lent_bits digit_space digit_at s.bytes.now s.count
 
 -- A text is read as a source of its bits, or refused.
-abbrev pub TextRead : {a l : _} → List ℕ → Result (LentBits (Bor (List ℕ)) Digits a l) TextFault → Type 0
+abbrev pub TextRead : List ℕ → Result (LentBits (Bor (List ℕ)) Digits) TextFault → Type 0
 TextRead text (Ok source) = IsText text × (source_bits source ≡ bits_of text)
 TextRead text (Err fault) = TextRefused text fault
