@@ -1,8 +1,9 @@
 // Standard input, as far as a text of digits may go: what the programs read.
 #![tactic(auto)]
 
-ghost use Rattle.std.specs.Prelude.{◌≤◌, IfOk, vec_len};
+ghost use Rattle.std.specs.Prelude.{◌≡◌, ◌≤◌, take, IfOk, IfSome, vec_len};
 
+use std::alloc::Global;
 use std::io;
 use std::io::Read;
 
@@ -13,9 +14,17 @@ const READ_MOST: usize = 65_537;
 pub fn read_text(rt: &HostRuntime) -> io::Result<Vec<u8>>
     ensures { IfOk result (λ text. vec_len text ≤ 65537) }
 {
-    let mut text = Vec::new(rt.alloc());
-    rt.stdin().take(READ_MOST as u64).read_to_end(&mut text)?;
-    // `take` has kept to this already, but no contract says so.
+    let mut text = read_front(rt.alloc(), rt.stdin())?;
+    // Standard input does not tell its bytes, so that the clause of `read_front` does not speak of it.
     text.truncate(READ_MOST);
+    Ok(text)
+}
+
+// The first bytes of a reader, as many as are to be read at the most; all of them where they are fewer.
+fn read_front<R: Read + Drop>(heap: Global, reader: R) -> io::Result<Vec<u8>>
+    ensures { IfOk result (λ text. IfSome (R.Read.remaining reader) (λ bytes. text.items ≡ take 65537 bytes)) }
+{
+    let mut text = Vec::with_capacity(heap, READ_MOST + 1)?;
+    reader.take(READ_MOST as u64).read_to_end(&mut text)?;
     Ok(text)
 }

@@ -1,17 +1,12 @@
 -- Writing bytes in hexadecimal, one after the other.
-use Rattle.std.proofs.Common.{◌≡◌, ℕ, ◌+◌, ◌-◌, ◌/◌, ◌%◌, ◌^◌, ◌<◌, true, false, List, [], ◌∷◌, ◌++◌, length, get_or, take, sym, ap, ◌∙◌, arith}
-use Rattle.std.proofs.lemmas.Bool.Decides.{nat_tests}
-use Rattle.std.proofs.lemmas.Fmt.{hex_byte as padded_byte}
-use Rattle.std.proofs.lemmas.List.{take_more, flat_map_more}
-use Rattle.std.specs.Fmt.{digits, digit_glyph, format_spec, padded_integral}
-use Rattle.packing.specs.Hexes.{hex_digit_of, hex_byte, hex_text}
+use Rattle.std.proofs.Common.{◌≡◌, ℕ, ◌+◌, ◌<◌, List, [], ◌∷◌, ◌++◌, length, get_or, take, sym, ap, ◌∙◌}
+use Rattle.std.proofs.lemmas.List.{take_more, flat_map_more, append_assoc}
+use Rattle.packing.specs.Hexes.{hex_byte, hex_text}
 
-same_digit : (n : ℕ) → digit_glyph true n ≡ hex_digit_of n
-same_digit n = grind (arith, nat_tests)
-
--- what ` {:02X}` writes of a byte
-pub byte_written : (n : ℕ) → n < 256 → 32 ∷ padded_integral (format_spec 32 0 4 2 (2 ^ 64 - 1)) false [] (digits 16 true n) ≡ hex_byte n
-byte_written n h = rw (padded_byte true n h, same_digit (n / 16), same_digit (n % 16))
+-- the three characters of a byte, put one after the other
+pub byte_put : (before one two three : List ℕ) (a b c : ℕ)
+    → one ≡ before ++ a ∷ [] → two ≡ one ++ b ∷ [] → three ≡ two ++ c ∷ [] → three ≡ before ++ a ∷ b ∷ c ∷ []
+byte_put before one two three a b c e f g = g ∙ rw (f, e) (simp append_assoc)
 
 -- one byte more
 pub hex_more : (bs : List ℕ) (i : ℕ) (before after : List ℕ) → i < length bs → before ≡ hex_text (take i bs)
