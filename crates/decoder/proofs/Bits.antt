@@ -28,7 +28,7 @@ module _ (k : ℕ) (m : Machine) (cells : List Cell) (found : List ℕ) (sound :
 
   -- What finding the place needs, and what halving a cell does.
   pub find_needs : m.waiting ≡ Second true → SideExponent k → (m.exponent < 15) × ((m.place < 4096) × ((m.place < length cells) × (m.count < length found)))
-  find_needs e side = find_fits k m cells found (by_sound k m cells found (Second true) e sound).0 side
+  find_needs e side = let fits = find_fits k m cells found (by_sound k m cells found (Second true) e sound).0 side in (fits.0, (fits.1, (fits.2, fits.4)))
 
   pub refine_needs : m.waiting ≡ Subordinate → (m.index < length found) × (get_or found m.index 0 < length cells)
       × ((get_or cells (get_or found m.index 0) clear).low + (get_or cells (get_or found m.index 0) clear).width ≤ 2 ^ 15)

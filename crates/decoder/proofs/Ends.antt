@@ -80,7 +80,7 @@ module _ (k : ℕ) (m : Machine) (cells : List Cell) (found : List ℕ) (w : Wal
     length_is = length_marks m.place cells (omega (arith, w.memory, w.inside)) ∙ (let e : m.place ≡ 4 ^ k = omega (arith, w.inside) in e)
 
     -- Nothing is found: then this is the first pass.
-    ends_nothing : (taken : ℕ) → m.count ≡ 0 → Comes k taken (stage_by First m cells found) m cells found (Err (NothingFound taken))
+    pub ends_nothing : (taken : ℕ) → m.count ≡ 0 → Comes k taken (stage_by First m cells found) m cells found (Err (NothingFound taken))
     unfolding findings_of
     ends_nothing taken none = λ count rest e. elim (cases_Bool m.whole) [
       | inl t ↦ absurd (omega (arith, (w.untouched t).0, w.order))
@@ -96,7 +96,7 @@ module _ (k : ℕ) (m : Machine) (cells : List Cell) (found : List ℕ) (w : Wal
       not_none = ap is_none all_found ∙ some_listed cells (take m.count found) (omega (arith, length-take-le m.count found count_most))
 
       -- A root is missed: then some label was read.
-      ends_missed : (taken : ℕ) (after : List Cell) → true ≡ has_missed_root k (marks_of (4 ^ k) cells)
+      pub ends_missed : (taken : ℕ) (after : List Cell) → true ≡ has_missed_root k (marks_of (4 ^ k) cells)
           → Comes k taken (stage_by First m cells found) m after found (Err (MissedRoot taken))
       ends_missed taken after missed = λ count rest e.
           let here : has_missed_root k (marks_of m.place cells) ≡ true =
@@ -109,13 +109,7 @@ module _ (k : ℕ) (m : Machine) (cells : List Cell) (found : List ℕ) (w : Wal
                 ∙ ap (λ (n : ℕ). refused (MissedRoot n)) e
           ]
 
-      module _ (sound : false ≡ has_missed_root k (marks_of (4 ^ k) cells)) (after : List Cell) (same : map plain after ≡ map plain cells) where
-        told : finding_of after ≡ finding_of cells
-        told = told_plain cells after same
-
-        long : length after ≡ length cells
-        long = sym (length-map after plain) ∙ ap length same ∙ length-map cells plain
-
+      module _ (sound : false ≡ has_missed_root k (marks_of (4 ^ k) cells)) (after : List Cell) (told : finding_of after ≡ finding_of cells) (long : length after ≡ length cells) where
         here_sound : has_missed_root k (marks_of m.place cells) ≡ false
         here_sound = ap (λ (n : ℕ). has_missed_root k (marks_of n cells)) (let s : m.place ≡ 4 ^ k = omega (arith, w.inside) in s) ∙ sym sound
 
@@ -126,7 +120,7 @@ module _ (k : ℕ) (m : Machine) (cells : List Cell) (found : List ℕ) (w : Wal
         all_after = findings_told cells after (take m.count found) told ∙ sym all_found
 
         -- At the threshold 1 every pass is over.
-        ends_over : (taken : ℕ) (last : Machine) → m.exponent ≡ 0 → last ≡ finishing m → Comes k taken (stage_by First m cells found) last after found (Ok tt)
+        pub ends_over : (taken : ℕ) (last : Machine) → m.exponent ≡ 0 → last ≡ finishing m → Comes k taken (stage_by First m cells found) last after found (Ok tt)
         unfolding stage_of
         ends_over taken last z e = rw e (
           record {
@@ -141,7 +135,7 @@ module _ (k : ℕ) (m : Machine) (cells : List Cell) (found : List ℕ) (w : Wal
         )
 
         -- Else the subordinate pass begins.
-        ends_begins : (taken : ℕ) (next : Machine) → 1 ≤ m.exponent → next ≡ refining_now m → Comes k taken (stage_by First m cells found) next after found (Ok tt)
+        pub ends_begins : (taken : ℕ) (next : Machine) → 1 ≤ m.exponent → next ≡ refining_now m → Comes k taken (stage_by First m cells found) next after found (Ok tt)
         unfolding findings_of stage_of
         ends_begins taken next h e = rw e (
           (
@@ -177,13 +171,19 @@ module _ (taken : ℕ) (m : Machine) (cells : List Cell) where
     end_missed missed = λ k found table w last. ends_missed k m cells found w last some taken after (missed k table)
 
     module _ (sound : (k : ℕ) → IsTable k cells → false ≡ has_missed_root k (marks_of (4 ^ k) cells)) (same : map plain after ≡ map plain cells) where
+      told : finding_of after ≡ finding_of cells
+      told = told_plain cells after same
+
+      long : length after ≡ length cells
+      long = sym (length-map after plain) ∙ ap length same ∙ length-map cells plain
+
       pub end_over : (over : Machine) → m.exponent ≡ 0 → over ≡ finishing m → EndsDominant taken m cells over after (Ok tt)
       unfolding EndsDominant
-      end_over over z e = λ k found table w last. ends_over k m cells found w last some (sound k table) after same taken over z e
+      end_over over z e = λ k found table w last. ends_over k m cells found w last some (sound k table) after told long taken over z e
 
       pub end_begins : (next : Machine) → 1 ≤ m.exponent → next ≡ refining_now m → EndsDominant taken m cells next after (Ok tt)
       unfolding EndsDominant
-      end_begins next h e = λ k found table w last. ends_begins k m cells found w last some (sound k table) after same taken next h e
+      end_begins next h e = λ k found table w last. ends_begins k m cells found w last some (sound k table) after told long taken next h e
 
 -- What the end of a dominant pass comes to.
 pub ruleset ends = (end_nothing, end_missed, end_over, end_begins)

@@ -60,7 +60,7 @@ module _ (k : ℕ) (marks : List Mark) (side : SideExponent k) where
   )
 
   -- All children of a place have told.
-  told_at : (cells : List Cell) (i p : ℕ) → Told k marks i cells → p < 4 ^ k → 1 ≤ i → ((c : ℕ) → 1 ≤ c → c / 4 ≡ p → i ≤ c)
+  pub told_at : (cells : List Cell) (i p : ℕ) → Told k marks i cells → p < 4 ^ k → 1 ≤ i → ((c : ℕ) → 1 ≤ c → c / 4 ≡ p → i ≤ c)
       → (get_or cells p clear).heir ≡ has_heir (4 ^ k) marks p
   told_at cells i p told l one late =
       let rule = heir_by_child p in
@@ -71,11 +71,11 @@ module _ (k : ℕ) (marks : List Mark) (side : SideExponent k) where
 
 module _ (k : ℕ) (marks : List Mark) (cells : List Cell) where
   -- No place has told its parent yet.
-  pub told_none : ((p : ℕ) → (get_or cells p clear).heir ≡ false) → Told k marks (4 ^ k) cells
-  told_none h p l = (λ t. absurd (both_ways _ (h p) t), λ w. absurd (omega arith))
+  pub told_none : ((p : ℕ) → p < 4 ^ k → (get_or cells p clear).heir ≡ false) → Told k marks (4 ^ k) cells
+  told_none h p l = (λ t. absurd (both_ways _ (h p l) t), λ w. absurd (omega arith))
 
   -- A live place tells its parent.
-  told_flag : (q i : ℕ) → i ≡ q + 1 → Told k marks i cells → q < 4 ^ k → 4 ^ k ≤ length cells → live k marks q ≡ true → Told k marks q (flag_at cells (q / 4) true)
+  pub told_flag : (q i : ℕ) → i ≡ q + 1 → Told k marks i cells → q < 4 ^ k → 4 ^ k ≤ length cells → live k marks q ≡ true → Told k marks q (flag_at cells (q / 4) true)
   told_flag q i next told l long t p h =
       elim (cases_eq p (q / 4)) [
         | inl e ↦ (λ _. (q, omega arith, l, sym e, t), λ _. rw e (flag_same cells (q / 4) true (omega arith)))
@@ -90,7 +90,7 @@ module _ (k : ℕ) (marks : List Mark) (cells : List Cell) where
       later c m e d = elim (cases_eq c q) [ inl same ↦ absurd (d (sym e ∙ rw same refl)) | inr other ↦ omega arith ]
 
   -- Any other tells nothing.
-  told_pass : (q i : ℕ) → i ≡ q + 1 → Told k marks i cells → live k marks q ≡ false → Told k marks q cells
+  pub told_pass : (q i : ℕ) → i ≡ q + 1 → Told k marks i cells → live k marks q ≡ false → Told k marks q cells
   told_pass q i next told t p h = (
     λ s. let w = (told p h).0 s in (w.0, omega arith, w.2, w.3, w.4),
     λ w. (told p h).1 (w.0, later w.0 w.1 w.4, w.2, w.3, w.4),
@@ -109,18 +109,18 @@ unfolding Telling
 telling_none before cells e = λ k table.
     let size : length cells ≡ 4 ^ k = ap length e ∙ length-map before plain ∙ table.size in
     let four = fourfold k table.side.0 in
-    (omega arith, rw size (told_none k (marks_of (4 ^ k) before) cells (λ p. rw e (cleared_at before p))))
+    (omega arith, rw size (told_none k (marks_of (4 ^ k) before) cells (λ p _. rw e (cleared_at before p))))
 
 module _ (before cells : List Cell) (same : map plain cells ≡ map plain before) where
   size : (k : ℕ) → IsTable k before → length cells ≡ 4 ^ k
   size k table = omega (arith, ap length same, length-map cells plain, length-map before plain, table.size)
 
   -- Whether the place of this turn is live is read from its cell.
-  live_is : (k q i : ℕ) → IsTable k before → i ≡ q + 1 → 1 ≤ q → q < 4 ^ k → Told k (marks_of (4 ^ k) before) i cells
+  live_is : (k q i : ℕ) → SideExponent k → i ≡ q + 1 → 1 ≤ q → q < 4 ^ k → Told k (marks_of (4 ^ k) before) i cells
       → live k (marks_of (4 ^ k) before) q ≡ (is_fresh (mark_of (get_or cells q clear)) || (get_or cells q clear).heir)
-  live_is k q i table next one l told =
+  live_is k q i side next one l told =
       let mark = ap (λ marks. is_fresh (get_or marks q skipped)) (sym (marks_plain (4 ^ k) before cells same)) ∙ ap is_fresh (mark_at (4 ^ k) cells q l) in
-      let heir = told_at k (marks_of (4 ^ k) before) table.side cells i q told l (omega arith) (λ c h e. omega arith) in
+      let heir = told_at k (marks_of (4 ^ k) before) side cells i q told l (omega arith) (λ c h e. omega arith) in
       rw (mark, heir) refl
 
   module _ (i : ℕ) (late : 1 < i) (inside : i ≤ length cells) (telling : Telling i before cells) where
@@ -132,7 +132,7 @@ module _ (before cells : List Cell) (same : map plain cells ≡ map plain before
         let told = (telling k table).1 in (
           omega arith,
           told_flag k (marks_of (4 ^ k) before) cells (i - 1) i (omega arith) told (omega arith) (omega arith)
-              (live_is k (i - 1) i table (omega arith) (omega arith) (omega arith) told ∙ sym t),
+              (live_is k (i - 1) i table.side (omega arith) (omega arith) (omega arith) told ∙ sym t),
         )
 
     -- and at any other.
@@ -142,7 +142,7 @@ module _ (before cells : List Cell) (same : map plain cells ≡ map plain before
         let s = size k table in
         let told = (telling k table).1 in (
           omega arith,
-          told_pass k (marks_of (4 ^ k) before) cells (i - 1) i (omega arith) told (live_is k (i - 1) i table (omega arith) (omega arith) (omega arith) told ∙ sym t),
+          told_pass k (marks_of (4 ^ k) before) cells (i - 1) i (omega arith) told (live_is k (i - 1) i table.side (omega arith) (omega arith) (omega arith) told ∙ sym t),
         )
 
 -- At the end every flag tells of its place's heirs.

@@ -1,5 +1,5 @@
 -- Missed roots, by the heir flags of the cells.
-use Rattle.std.proofs.Common.{◌≡◌, ℕ, ◌*◌, ◌/◌, ◌^◌, ◌<◌, Bool, true, false, not, ◌&&◌, List, map, length, get_or, take, sym, refl, ap, ◌∙◌, inl, inr, arith}
+use Rattle.std.proofs.Common.{◌≡◌, ℕ, ◌*◌, ◌/◌, ◌^◌, ◌<◌, ◌≤◌, Bool, true, false, not, ◌&&◌, List, map, length, get_or, take, sym, refl, ap, ◌∙◌, inl, inr, arith}
 use Rattle.decoder.proofs.Flags.{marks_plain}
 use Rattle.decoder.proofs.Items.{mark_at}
 use Rattle.decoder.specs.Heirs.{has_heir, is_zero}
@@ -25,7 +25,7 @@ unfolding has_missed_root has_heir
 missed_rule k marks = refl
 
 -- The cells before and after their flags are written.
-module _ (k : ℕ) (before cells : List Cell) (table : IsTable k before) (same : map plain cells ≡ map plain before)
+module _ (k : ℕ) (before cells : List Cell) (least : 1 ≤ k) (same : map plain cells ≡ map plain before)
     (heirs : (p : ℕ) → p < 4 ^ k → (get_or cells p clear).heir ≡ has_heir (4 ^ k) (marks_of (4 ^ k) before) p) where
   -- Whether a place is a zero without an heir is read from its cell.
   lone_is : (p : ℕ) → p < 4 ^ k
@@ -35,7 +35,7 @@ module _ (k : ℕ) (before cells : List Cell) (table : IsTable k before) (same :
       rw (heirs p l, mark) refl
 
   -- Such a place among the first quarter is a missed root,
-  root_missed : (p : ℕ) → p < 4 ^ k / 4 → lone (get_or cells p clear) ≡ true → has_missed_root k (marks_of (4 ^ k) before) ≡ true
+  pub root_missed : (p : ℕ) → p < 4 ^ k / 4 → lone (get_or cells p clear) ≡ true → has_missed_root k (marks_of (4 ^ k) before) ≡ true
   root_missed p l t =
       let low : p < 4 ^ k = omega arith in
       let children : has_children k p ≡ true = lt-ltb (4 * p) (4 ^ k) (omega arith) in
@@ -43,9 +43,9 @@ module _ (k : ℕ) (before cells : List Cell) (table : IsTable k before) (same :
       missed_rule k _ ∙ some_at (4 ^ k) _ p low (and_from _ _ parts.0 (and_from _ _ children parts.1))
 
   -- and where there is none, no root is missed.
-  none_missed : ((p : ℕ) → p < 4 ^ k / 4 → lone (get_or cells p clear) ≡ false) → has_missed_root k (marks_of (4 ^ k) before) ≡ false
+  pub none_missed : ((p : ℕ) → p < 4 ^ k / 4 → lone (get_or cells p clear) ≡ false) → has_missed_root k (marks_of (4 ^ k) before) ≡ false
   none_missed none =
-      let four = fourfold k table.side.0 in
+      let four = fourfold k least in
       let marks = marks_of (4 ^ k) before in
       missed_rule k marks ∙ some_none (4 ^ k) _ (λ p l. elim (cases_lt (4 * p) (4 ^ k)) [
         | inl c ↦ between (is_zero (get_or marks p skipped)) (has_children k p) (not (has_heir (4 ^ k) marks p)) (lone_is p l ∙ none p (omega arith))
@@ -55,6 +55,9 @@ module _ (k : ℕ) (before cells : List Cell) (table : IsTable k before) (same :
       between : (x y z : Bool) → (x && z) ≡ false → (x && (y && z)) ≡ false
       between x y z h = elim (and_cases x z h) [ inl e ↦ and_left x _ e | inr e ↦ and_right x _ (and_right y z e) ]
 
+-- The same for the cells of any table.
+module _ (k : ℕ) (before cells : List Cell) (table : IsTable k before) (same : map plain cells ≡ map plain before)
+    (heirs : (p : ℕ) → p < 4 ^ k → (get_or cells p clear).heir ≡ has_heir (4 ^ k) (marks_of (4 ^ k) before) p) where
   -- So the first quarter of the cells tells whether a root is missed.
   pub missed_by_cells : list_any lone (take (length cells / 4) cells) ≡ has_missed_root k (marks_of (4 ^ k) before)
   missed_by_cells =
@@ -64,8 +67,8 @@ module _ (k : ℕ) (before cells : List Cell) (table : IsTable k before) (same :
         | inl t ↦
             let w = Any-from_list_any lone front t in
             let l : w.0 < length cells / 4 = omega (arith, length-take (length cells / 4) cells, w.2) in
-            t ∙ sym (root_missed w.0 (omega (arith, size)) (rw (sym (get_or-take (length cells / 4) cells w.0 clear l), get_or_default front w.0 clear w.1 w.2, w.3) w.4))
-        | inr f ↦ f ∙ sym (none_missed (λ p l. elim (cases_Bool (lone (get_or cells p clear))) [
+            t ∙ sym (root_missed k before cells table.side.0 same heirs w.0 (omega (arith, size)) (rw (sym (get_or-take (length cells / 4) cells w.0 clear l), get_or_default front w.0 clear w.1 w.2, w.3) w.4))
+        | inr f ↦ f ∙ sym (none_missed k before cells table.side.0 same heirs (λ p l. elim (cases_Bool (lone (get_or cells p clear))) [
           | inl t ↦
               let low : p < length front = rw length-take (omega (arith, size)) in
               absurd (both_ways _ f (list_any_at lone front p clear low (rw (get_or-take (length cells / 4) cells p clear (omega (arith, size))) t)))

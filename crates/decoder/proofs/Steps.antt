@@ -140,6 +140,12 @@ skip_place k count j whole earlier marks bits h d = go whole bits
     go false [] = unfold meaning in from []
     go whole (b ∷ bits) = unfold meaning in from (b ∷ bits)
 
+-- The first bit of a label is taken.
+pub first_bit : (k count j : ℕ) (whole : Bool) (earlier : List Finding) (marks : List Mark) (b : Bool) (bits : List Bool)
+    → meaning k count (halfway j earlier marks b) bits ≡ meaning k count (walking j whole earlier marks) (b ∷ bits)
+unfolding meaning
+first_bit k count j whole earlier marks b bits = refl
+
 -- The second bit is taken, and the place is labelled.
 pub label_bits_lem : (k count j : ℕ) (earlier : List Finding) (marks : List Mark) (first b : Bool) (bits : List Bool)
     → length marks < 4 ^ k → due earlier marks (length marks) ≡ true → (label_read first b ≡ zerotree_root → has_children k (length marks) ≡ true)

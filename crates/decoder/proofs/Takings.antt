@@ -51,11 +51,14 @@ module _ (k : ℕ) (m : Machine) (cells : List Cell) (found : List ℕ) (d : Due
       d.clear_above
 
   -- What finding the place needs.
-  pub find_fits : SideExponent k → (m.exponent < 15) × ((m.place < 4096) × ((m.place < length cells) × (m.count < length found)))
+  pub find_fits : SideExponent k → (m.exponent < 15) × (m.place < 4096) × (m.place < length cells) × (m.count < 4 ^ k) × (m.count < length found)
   find_fits side =
       let room : m.count < 4 ^ k = omega (arith, d.walk.held.counted, known_fewer (finding_of cells) (4 ^ k) m.place d.place_in d.unknown) in (
         omega (arith, d.walk.small),
-        (omega (arith, d.place_in, places_most_lem k side.1), (omega (arith, d.place_in, d.walk.memory), omega (arith, room, d.walk.held.memory))),
+        omega (arith, d.place_in, places_most_lem k side.1),
+        omega (arith, d.place_in, d.walk.memory),
+        room,
+        omega (arith, room, d.walk.held.memory),
       )
 
   -- Its first bit.

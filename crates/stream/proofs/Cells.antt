@@ -1,10 +1,10 @@
 -- Cells in closed form: a subordinate pass takes each cell to the cell of half the width that holds the magnitude.
-use Rattle.std.proofs.Common.{◌≡◌, ℕ, zero, suc, ◌+◌, ◌*◌, ◌/◌, ◌%◌, ◌^◌, ◌<◌, ◌≤◌, Bool, true, cond, leb, ◌⊎◌, List, [], ◌∷◌, ◌++◌, length, get_or, ℤ, pos, sym, refl, ap, ◌∙◌, inl, inr, mul_assoc, mul-add, mul_left_comm, add-one, arith}
+use Rattle.std.proofs.Common.{◌≡◌, ℕ, zero, suc, ◌+◌, ◌*◌, ◌/◌, ◌%◌, ◌^◌, ◌<◌, ◌≤◌, Bool, true, cond, leb, ◌⊎◌, List, [], ◌∷◌, ◌++◌, map, length, get_or, ℤ, pos, sym, refl, ap, ◌∙◌, inl, inr, mul_assoc, mul-add, mul_left_comm, add-one, arith}
 use native.Mathlib.Nat.{pow-succ', div-add-mod}
 use Rattle.std.proofs.lemmas.Nat.{pow_pos, shr-shr, mod_below}
 use Rattle.std.proofs.lemmas.Bool.{le-leb, lt-leb}
 use Rattle.stream.specs.Numbers.{negative, magnitude_at, low_end}
-use Rattle.stream.specs.Passes.{Finding, halved, upper}
+use Rattle.stream.specs.Passes.{Finding, is_found, halved, upper}
 use Rattle.stream.specs.Streams.{refinements, refined, spelled}
 use Rattle.stream.specs.Reading.{refine_all}
 use Rattle.stream.proofs.Terms.{cell_at}
@@ -53,6 +53,11 @@ pub halved_cell_lem : (t : List ℤ) (j p : ℕ) → halved (cell_at t (suc j) p
 unfolding cell_at halved upper
 halved_cell_lem t j p = rw (half j) (ap (λ x. record { place = p; negated = negative (get_or t p (pos 0)); low = x; width = 2 ^ j }) (half_low j (magnitude_at t p)))
 
+pub refined_cells : (t : List ℤ) (j : ℕ) (ps : List ℕ) → refined t (map (cell_at t (suc j)) ps) ≡ map (cell_at t j) ps
+unfolding refined
+refined_cells t j [] = refl
+refined_cells t j (p ∷ ps) = rw (halved_cell_lem t j p, refined_cells t j ps)
+
 -- Each found place has one subordinate bit.
 pub length_refinements : (t : List ℤ) (j : ℕ) (xs : List Finding) → length (spelled (refinements t j xs)) ≡ length xs
 unfolding refinements spelled
@@ -64,3 +69,9 @@ pub refine_all_lem : (t : List ℤ) (j : ℕ) (xs : List Finding) (rest : List B
 unfolding refine_all refinements refined spelled
 refine_all_lem t j [] rest = refl
 refine_all_lem t j (x ∷ xs) rest = rw (refine_all_lem t j xs rest)
+
+-- Which places are found does not depend on the width of the cells.
+pub cells_found : (t : List ℤ) (w v : ℕ) (ps : List ℕ) (p : ℕ) → is_found (map (cell_at t w) ps) p ≡ is_found (map (cell_at t v) ps) p
+unfolding is_found cell_at
+cells_found t w v [] p = refl
+cells_found t w v (q ∷ ps) p = rw (cells_found t w v ps p)

@@ -4,7 +4,7 @@ use Rattle.scan.proofs.Division.{descends_by_division, descendant_later}
 use Rattle.scan.specs.Tree.{descends}
 use Rattle.std.proofs.lemmas.List.{append_assoc, length_push, take_all, take-append-le, take_at, get_or_append_left, get_or_past, length-take-le, get_or-take, get_or_push}
 use Rattle.std.proofs.lemmas.Bool.{cases_Bool, cases_lt, and_from, and_parts, and_left, and_right, cond-true, cond-false, not_from_true, not_from_false, not-true, not-false, both_ways, false≢true, true≢false}
-pub use Rattle.stream.proofs.Marks.{spelled_append, labels_append, findings_append, is_found_append, is_found_findings, mark_of, marks_suc, length_marks, label_ok, take_marks, mark_at, marks_fresh, findings_fresh}
+pub use Rattle.stream.proofs.Marks.{spelled_append, labels_append, findings_append, is_found_append, is_found_findings, mark_of, marks_suc, length_marks, label_ok, take_marks, mark_at, marks_coherent, marks_fresh, findings_fresh}
 pub use Rattle.stream.proofs.Somes.{some_true, some_at, some_false, some_none}
 use Rattle.stream.proofs.Terms.{MarkOk, Coherent, Says}
 use Rattle.stream.specs.Laws.{SideExponent}

@@ -1,5 +1,5 @@
 -- Likeness of numbers at a floor: what one resave keeps, how floors nest, and how far many resaves lead.
-use Rattle.std.proofs.Common.{◌≡◌, ℕ, zero, suc, ◌+◌, ◌-◌, ◌*◌, ◌/◌, ◌^◌, ◌<◌, ◌≤◌, max, Bool, true, false, List, [], ◌∷◌, ℤ, pos, negsuc, ◌-ℤ◌, nat_abs, sym, refl, ap, ◌∙◌, inl, inr, mul_comm, div-lt_iff_lt-mul, add-mul, mul-le-mul_left, le-div_iff_mul-le, mul-add, arith}
+use Rattle.std.proofs.Common.{◌≡◌, ℕ, zero, suc, ◌+◌, ◌-◌, ◌*◌, ◌/◌, ◌^◌, ◌<◌, ◌≤◌, max, Bool, true, false, List, [], ◌∷◌, ℤ, pos, negsuc, ◌-ℤ◌, nat_abs, sym, refl, ap, ◌∙◌, ap₂, inl, inr, mul_comm, div-lt_iff_lt-mul, add-mul, mul-le-mul_left, le-div_iff_mul-le, mul-add, arith}
 use native.Mathlib.Nat.{pow-succ', mul-div-mul_left, mul-div-le, lt-mul-div-succ, div-eq_of_lt-le, div-div-eq-div-mul}
 use Rattle.std.proofs.lemmas.Int.{ints}
 use Rattle.std.proofs.lemmas.Nat.{pow_pos}
@@ -15,6 +15,11 @@ doubled f n = rw pow-succ' (mul-div-mul_left n (2 ^ f) (omega arith))
 
 pub half_of : (f : ℕ) → suc f - 1 ≡ f
 half_of f = omega arith
+
+-- Equal quotients are equal blocks, of half the floor's width or of width 1.
+blocks : (f m n : ℕ) → 2 * m / 2 ^ f ≡ 2 * n / 2 ^ f → m / 2 ^ width_after f ≡ n / 2 ^ width_after f
+blocks zero m n e = omega arith
+blocks (suc f) m n e = rw half_of (sym (doubled f m) ∙ e ∙ doubled f n)
 
 -- Equal blocks, of half the floor's width or of width 1, are equal quotients.
 quotients : (f m n : ℕ) → m / 2 ^ width_after f ≡ n / 2 ^ width_after f → 2 * m / 2 ^ f ≡ 2 * n / 2 ^ f
@@ -76,6 +81,14 @@ pub quantized_high : (place : Placement) (f : ℕ) (c : ℤ) → 2 ^ f ≤ nat_a
 unfolding quantized
 quantized_high place f c h = rw (le-leb (2 ^ f) (nat_abs c) h) refl
 
+-- Alike numbers are heard alike.
+pub quantized_alike : (place : Placement) (f : ℕ) (a b : ℤ) → Alike f a b → quantized place f a ≡ quantized place f b
+quantized_alike place f a b (inl h) = quantized_low place f a h.0 ∙ sym (quantized_low place f b h.1)
+quantized_alike place f a b (inr h) =
+    quantized_high place f a h.0
+    ∙ ap₂ (λ s q. signed s (place (2 ^ width_after f * q) (2 ^ width_after f))) h.2 (blocks f (nat_abs a) (nat_abs b) h.3)
+    ∙ sym (quantized_high place f b h.1)
+
 -- A number is alike with every number of its sign and block.
 signed_alike : (f : ℕ) (c : ℤ) (m : ℕ) → 2 ^ f ≤ nat_abs c → 2 ^ f ≤ m → m / 2 ^ width_after f ≡ nat_abs c / 2 ^ width_after f → Alike f c (signed (negative c) m)
 signed_alike f c m l h e =
@@ -95,6 +108,10 @@ quantized_like place stays f c =
         signed_alike f c _ l (omega (arith, low_above f (nat_abs c) l)) (block_of (width_after f) _ _ s.0 s.1)
 
 -- ---- Likeness
+
+pub alike_sym : (f : ℕ) (a b : ℤ) → Alike f a b → Alike f b a
+alike_sym f a b (inl h) = inl (h.1, h.0)
+alike_sym f a b (inr h) = inr (h.1, h.0, sym h.2, sym h.3)
 
 pub alike_trans : (f : ℕ) (a b c : ℤ) → Alike f a b → Alike f b c → Alike f a c
 alike_trans f a b c (inl h) (inl g) = inl (h.0, g.1)
@@ -125,6 +142,10 @@ nesting_up f (suc d) a b h = let e : f + suc d ≡ suc (f + d) = omega arith in 
 
 pub nesting : Nesting
 nesting f g a b l h = let e : f + (g - f) ≡ g = omega arith in rw e at (nesting_up f (g - f) a b h)
+
+-- What is heard of a number of the range is in range.
+pub quantized_range : (place : Placement) → InCell place → (f : ℕ) (c : ℤ) → f ≤ 15 → nat_abs c < 2 ^ 15 → nat_abs (quantized place f c) < 2 ^ 15
+quantized_range place stays f c h l = alike_low 15 c (quantized place f c) (nesting f 15 c (quantized place f c) h (quantized_like place stays f c)) l
 
 -- The distance of two numbers of one sign is that of their magnitudes.
 pub distance : (a b : ℤ) → negative a ≡ negative b → nat_abs (b -ℤ a) ≡ (nat_abs b - nat_abs a) + (nat_abs a - nat_abs b)

@@ -6,7 +6,7 @@ use Rattle.scan.specs.Tree.{descends}
 use Rattle.std.proofs.lemmas.List.{append_assoc, length_push, take_all, take-append-le, get_or-take, get_or_push, map-append}
 use Rattle.std.proofs.lemmas.Bool.{cases_Bool, cases_eq, or_from, or_left, and_from, and_parts, ne_eqb, eq-eqb, cond_both, not_from_false, not-true, leb-true, leb-false, both_ways, false≢true, true≢false}
 use Rattle.stream.proofs.Somes.{some_false, some_none}
-use Rattle.stream.proofs.Terms.{MarkOk, Early, cell_at, fresh_to}
+use Rattle.stream.proofs.Terms.{MarkOk, Coherent, Early, cell_at, fresh_to}
 use Rattle.stream.specs.Laws.{SideExponent}
 use Rattle.stream.specs.Numbers.{negative, magnitude_at}
 use Rattle.stream.specs.Passes.{Label, significant, zerotree_root, isolated_zero, Mark, skipped, labelled, Finding, has_children, is_root, is_found, is_fresh, under_root, due, reached_below, label_of, marks_to, findings}
@@ -242,3 +242,14 @@ findings_to k j t earlier early (suc n) h =
 pub findings_fresh : (k j : ℕ) (t : List ℤ) (earlier : List Finding) → SideExponent k → Early k t (suc j) earlier
     → findings j 0 (marks_to k t j earlier (4 ^ k)) ≡ map (cell_at t j) (fresh_to t j (4 ^ k))
 findings_fresh k j t earlier _ early = findings_to k j t earlier early (4 ^ k) (omega arith)
+
+-- The coder's marks obey the rule of the walk.
+pub marks_coherent : (k j : ℕ) (t : List ℤ) (earlier : List Finding) (n : ℕ) → Coherent k earlier (marks_to k t j earlier n)
+marks_coherent k j t earlier n p h =
+    let l : p < n = omega (arith, length_marks k j t earlier n) in
+    rw (take_marks k j t earlier p n (omega arith), mark_at k j t earlier p n l)
+    (mark_ok (due earlier (marks_to k t j earlier p) p))
+  where
+    mark_ok : (b : Bool) → MarkOk k p b (cond b (labelled (label_of k t j earlier p)) skipped)
+    mark_ok true = label_ok k j t earlier p
+    mark_ok false = tt

@@ -19,6 +19,10 @@ near_coarser j i c v h n = by (pow-le-pow_right {n = 2} (omega arith) h) n
     by h (inl l) = inl (l.0, omega (arith, pow-succ' 2 j, pow-succ' 2 i))
     by h (inr s) = inr (s.0, omega arith)
 
+-- A cell that holds a number of its width or more does not begin at 0.
+low_positive : (w n : ℕ) → 2 ^ w ≤ n → 1 ≤ low_end w n
+low_positive w n h = omega (arith, cell_holds w n)
+
 -- The middle of the cell of a number.
 pub near_middle : (w j : ℕ) (c : ℤ) → w ≤ j → 2 ^ w ≤ nat_abs c → Near j c (signed (negative c) (middle (low_end w (nat_abs c)) (2 ^ w)))
 near_middle w j c h l =

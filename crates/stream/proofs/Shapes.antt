@@ -2,7 +2,7 @@
 use Rattle.std.proofs.Common.{◌≡◌, ℕ, suc, ◌+◌, ◌*◌, ◌^◌, ◌<◌, ◌≤◌, Bool, true, false, eqb, List, [], ◌∷◌, ◌++◌, length, get_or, sym, refl, ◌∙◌, inl, inr, mul-one, mul-add, arith, pow_mono}
 use native.Mathlib.Nat.{pow-succ'}
 use Rattle.std.proofs.ByRecursion.{All-append, All-weaker}
-use Rattle.std.proofs.lemmas.Bool.{cases_Bool, or_cases, or_from, or_left, or_right, eq-eqb, eqb-true, both_ways, false≢true}
+use Rattle.std.proofs.lemmas.Bool.{cases_Bool, or_cases, or_from, or_left, or_right, eq-eqb, ne_eqb, eqb-true, both_ways, false≢true}
 use Rattle.std.specs.List.{AllByRecursion as All}
 use Rattle.stream.specs.Passes.{significant, zerotree_root, isolated_zero, Mark, skipped, labelled, Finding, is_found, is_fresh, findings, halved}
 use Rattle.stream.specs.Reading.{refine_all}
@@ -83,6 +83,12 @@ findings_marked j p (labelled (significant s) ∷ ms) =
     (record { index = 0; stands = omega arith; at_place = omega arith; marked = refl; lowest = refl; wide = refl }, fresh_later j p _ ms _ (findings_marked j (suc p) ms))
 findings_marked j p (labelled zerotree_root ∷ ms) = fresh_later j p _ ms _ (findings_marked j (suc p) ms)
 findings_marked j p (labelled isolated_zero ∷ ms) = fresh_later j p _ ms _ (findings_marked j (suc p) ms)
+
+-- Later findings are at later places.
+not_among : (j p q : ℕ) (ms : List Mark) (xs : List Finding) → q < p → All (FreshAt j p ms) xs → is_found xs q ≡ false
+unfolding is_found
+not_among j p q ms [] h a = refl
+not_among j p q ms (x ∷ xs) h a = or_from _ _ (ne_eqb _ _ (λ e. omega (arith, a.0.at_place))) (not_among j p q ms xs h a.1)
 
 findings_distinct : (j p : ℕ) (ms : List Mark) → Distinct (findings j p ms)
 unfolding findings

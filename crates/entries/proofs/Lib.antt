@@ -1,0 +1,2 @@
+pub mod SurfaceRows
+pub mod PartialRows
