@@ -14,5 +14,6 @@ pub mod Starts
 pub mod Runs
 pub mod Flags
 pub mod Heirs
+pub mod Longer
 pub mod Roots
 pub mod Spelling
