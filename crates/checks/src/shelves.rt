@@ -43,6 +43,20 @@ fn adapters_nest(rt: HostRuntime) -> Result<(), Fail> {
     Ok(())
 }
 
+// A caller can name a source over bytes for any layout: no bounds are asked of the type.
+#[derive(Clone, Copy)]
+struct Named<'a, L> {
+    source: ByteSource<'a, L>,
+}
+
+#[test]
+fn a_source_is_named_for_any_layout(rt: HostRuntime) {
+    let named = Named {
+        source: ByteSource::new(Digits, b"011", 3),
+    };
+    assert_eq!(rt; named.source.bit(2), Some(true));
+}
+
 #[test]
 fn a_limit_below_the_count_holds_all_bits(rt: HostRuntime) {
     let mut bytes = [0xFFu8; 2];

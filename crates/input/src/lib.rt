@@ -24,6 +24,7 @@ pub fn read_text(rt: &HostRuntime) -> io::Result<Vec<u8>>
 fn read_front<R: Read + Drop>(heap: Global, reader: R) -> io::Result<Vec<u8>>
     ensures { IfOk result (λ text. IfSome (R.Read.remaining reader) (λ bytes. text.items ≡ take 65537 bytes)) }
 {
+    // Room at once, and for a byte more, so that a full text does not have the vector grow to twice that.
     let mut text = Vec::with_capacity(heap, READ_MOST + 1)?;
     reader.take(READ_MOST as u64).read_to_end(&mut text)?;
     Ok(text)
