@@ -43,18 +43,28 @@ fn adapters_nest(rt: HostRuntime) -> Result<(), Fail> {
     Ok(())
 }
 
-// A caller can name a source over bytes for any layout: no bounds are asked of the type.
+// A caller can name a source or a shelf over bytes for any layout: no bounds are asked of the types.
 #[derive(Clone, Copy)]
-struct Named<'a, L> {
+struct Song<'a, L> {
     source: ByteSource<'a, L>,
 }
 
+#[derive(Drop)]
+struct Tape<'a, L> {
+    shelf: ByteShelf<'a, L>,
+}
+
 #[test]
-fn a_source_is_named_for_any_layout(rt: HostRuntime) {
-    let named = Named {
+fn bytes_are_named_for_any_layout(rt: HostRuntime) {
+    let song = Song {
         source: ByteSource::new(Digits, b"011", 3),
     };
-    assert_eq!(rt; named.source.bit(2), Some(true));
+    assert_eq!(rt; song.source.bit(2), Some(true));
+    let mut bytes = [0x80u8; 1];
+    let tape = Tape {
+        shelf: ByteShelf::new(Packed, &mut bytes, 3),
+    };
+    assert_eq!(rt; tape.shelf.bit(0), Some(true));
 }
 
 #[test]
